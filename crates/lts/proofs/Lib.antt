@@ -1,0 +1,13 @@
+pub mod Tests
+pub mod Proper
+pub mod Chain
+pub mod Order
+pub mod Readings
+pub mod Keeping
+pub mod Sides
+pub mod Coverings
+pub mod Largest
+pub mod Claimed
+pub mod Rows
+pub mod Numbered
+pub mod Lawful

@@ -1,0 +1,12 @@
+pub mod Labels
+pub mod Systems
+pub mod Operators
+pub mod Machines
+pub mod Layers
+pub mod Covering
+pub mod Conformance
+pub mod Contexts
+pub mod Claims
+pub mod Laws
+pub mod Some
+pub mod Soundness
