@@ -1,0 +1,4 @@
+pub mod Masks
+pub mod Tables
+pub mod Refusals
+pub mod Sounds
