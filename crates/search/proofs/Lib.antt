@@ -1,0 +1,3 @@
+pub mod Told
+pub mod Visiting
+pub mod Finding
