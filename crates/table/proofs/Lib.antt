@@ -1,0 +1,12 @@
+pub mod Results
+pub mod Cuts
+pub mod Figures
+pub mod Places
+pub mod Shapes
+pub mod Turns
+pub mod Stored
+pub mod Parting
+pub mod Fields
+pub mod Law
+pub mod Refused
+pub mod Blamed
