@@ -5,13 +5,14 @@ use mathlib.Core.Logic.{_↔_, ⊎-elim}
 use Prim.Native.Nat.{ℕ, _*_, _≤_}
 use native.Mathlib.Nat.{zero-mul, mul-zero}
 use native.Mathlib.Omega.{arith}
+use lib.Dec.{T}
 use Rattle.std.proofs.shelf.Tests.{cases-eq}
 use Rattle.lts.specs.Labels.{member}
 use Rattle.lts.specs.Systems.{Lts, Conforms}
 use Rattle.lts.specs.Operators.{restrict, relabel, parallel}
 use Rattle.lts.specs.Machines.{Machine, Sound, Fits, system-of, initial}
 use Rattle.lts.specs.Covering.{Covered, Tested-refusals}
-use Rattle.lts.specs.Conformance.{Machine-conforms}
+use Rattle.lts.specs.Conformance.{Machine-conforms, largest}
 use Rattle.lts.specs.Layers.{
   Machine-layer,
   restriction,
@@ -25,14 +26,15 @@ use Rattle.lts.specs.Layers.{
   parallel-machine,
 }
 use Rattle.lts.specs.Soundness.{by-list-names, parallel-fits, put-over-sound, context-sound}
-use Rattle.lts.specs.Laws.{Refusals-agree, Is-largest, Context-keeps, Stuck-only-if}
+use Rattle.lts.specs.Laws.{Shows-conformance, Tested-conformance, Refusals-agree, Is-largest, Context-keeps, Stuck-only-if}
 use Rattle.lts.proofs.Proper.{Proper, proper}
 use Rattle.lts.proofs.Readings.{tells-initial}
 use Rattle.lts.proofs.Coverings.{covered-weak, refusals-of, refusals-tested, refusals-decided}
 use Rattle.lts.proofs.Order.{conforms-refl, conforms-trans, conforms-stuck}
 use Rattle.lts.proofs.Keeping.{restrict-keeps, relabel-keeps}
 use Rattle.lts.proofs.Sides.{parallel-keeps}
-use Rattle.lts.proofs.Largest.{is-largest, systems-conform, machines-conform}
+use Rattle.lts.proofs.Largest.{is-largest, systems-conform, machines-conform, largest-meets, decided}
+use Rattle.lts.proofs.Claimed.{to-clauses, from-clauses}
 use Rattle.lts.proofs.Numbered.{Bisimilar, bisimilar-conforms, bisimilar-back, restricted-alike, relabelled-alike, parallel-alike}
 
 pub refusals-agree : (M N : Machine) → Sound M → Fits M → Refusals-agree M N
@@ -43,6 +45,17 @@ refusals-agree M N s f p q = (
 
 pub rounds-leave-the-largest : (M N : Machine) → Sound M → Fits M → Sound N → Fits N → Is-largest M N
 rounds-leave-the-largest M N s f u g = is-largest M N (proper M s f) (proper N u g)
+
+-- conformance of machines and of their systems
+pub shows-conformance : (R : ℕ → ℕ → Type 0) (M N : Machine) → Sound M → Fits M → Sound N → Fits N → Shows-conformance M N R
+shows-conformance R M N s f u g m r =
+    machines-conform M N (proper M s f) (proper N u g) (record { by = R; meets = from-clauses (system-of M) (system-of N) R m; starts = r })
+
+pub tested-conformance : (M N : Machine) → Sound M → Fits M → Sound N → Fits N → Machine-conforms M N → Tested-conformance M N
+tested-conformance M N s f u g c =
+    let k = proper M s f in
+    let l = proper N u g in
+    record { meets = to-clauses (system-of M) (system-of N) (λ p q. T (largest M N p q)) (largest-meets M N k l); starts = decided M N k l .1 c }
 
 pub reflexive : (M : Machine) → Sound M → Fits M → Machine-conforms M M
 reflexive M s f = machines-conform M M (proper M s f) (proper M s f) (conforms-refl (system-of M))

@@ -9,6 +9,7 @@ use Rattle.lts.specs.Machines.{Machine, Sound, Fits, system-of, tau-reaches, w
 use Rattle.lts.specs.Covering.{Covered, Tested-refusals}
 use Rattle.lts.specs.Conformance.{Machine-meets, Machine-conforms, largest}
 use Rattle.lts.specs.Layers.{Machine-layer, in-machine-context}
+use Rattle.lts.specs.Claims.{Meets-clauses}
 
 -- each test of a machine tells what its word means of the machine's system
 pub record Readings-agree (M : Machine) : Type 0 where
@@ -22,6 +23,16 @@ pub record Readings-agree (M : Machine) : Type 0 where
 -- the second clause over label sets says that wherever p comes to rest, q can come to rest with no other initials
 abbrev pub Refusals-agree : Machine → Machine → Type 0
 Refusals-agree M N = (p q : ℕ) → Tested-refusals (system-of M) (system-of N) p q ↔ Covered (system-of M) (system-of N) p q
+
+-- a relation between the systems that meets both clauses and holds the starts shows that the first machine conforms
+abbrev pub Shows-conformance : Machine → Machine → (ℕ → ℕ → Type 0) → Type 0
+Shows-conformance M N R =
+    Meets-clauses (system-of M) (system-of N) R → R (M .start) (N .start) → Machine-conforms M N
+
+-- the pairs that stand are such a relation
+pub record Tested-conformance (M N : Machine) : Type 0 where
+  pub meets : Meets-clauses (system-of M) (system-of N) (λ p q. T (largest M N p q))
+  pub starts : T (largest M N (M .start) (N .start))
 
 -- of all relations that meet both clauses, `largest` is the largest
 pub record Is-largest (M N : Machine) : Type 0 where

@@ -4,12 +4,26 @@ ghost use mathlib.Core.List.{List};
 ghost use Rattle.lts.specs.Machines.{Machine, Sound, Fits, system-of};
 ghost use Rattle.lts.specs.Conformance.{Machine-conforms};
 ghost use Rattle.lts.specs.Layers.{Machine-layer};
+ghost use Prim.Native.Nat.{ℕ};
+ghost use Rattle.lts.specs.Laws.{Shows-conformance, Tested-conformance};
 ghost use Rattle.lts.specs.Laws.{Readings-agree, Refusals-agree, Is-largest, Context-keeps, Stuck-only-if};
 
 /// What a test tells of a machine is what its word means of the machine's system.
 pub fn readings_agree()
     ensures words { λ _. ⌜ ((M : Machine) → Sound M → Fits M → Readings-agree M) ⌝ }
     ensures label_sets { λ _. ⌜ ((M N : Machine) → Sound M → Fits M → Refusals-agree M N) ⌝ }
+{}
+
+/// A relation between states, given by any property of pairs.
+pub trait Relation {
+    ghost holds: { ℕ → ℕ → Type 0 };
+}
+
+/// One machine conforms to another exactly if its system does: a relation that meets both clauses and holds the starts
+/// shows it, whatever property it is given by, and a test always can be found for one.
+pub fn conformance_agrees<R: Relation>()
+    ensures shown { λ _. ⌜ ((M N : Machine) → Sound M → Fits M → Sound N → Fits N → Shows-conformance M N (R·Relation .holds)) ⌝ }
+    ensures tested { λ _. ⌜ ((M N : Machine) → Sound M → Fits M → Sound N → Fits N → Machine-conforms M N → Tested-conformance M N) ⌝ }
 {}
 
 /// Striking pairs in rounds leaves the largest relation that meets both clauses.

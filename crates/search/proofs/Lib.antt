@@ -1,3 +1,4 @@
 pub mod Told
 pub mod Visiting
 pub mod Finding
+pub mod Worked
