@@ -10,7 +10,7 @@ use Rattle.std.proofs.shelf.Tests.{ne-eqb, eq-eqb}
 use Rattle.table.specs.Text.{cut, pieces, onto-first}
 use Rattle.table.specs.Faults.{Free}
 
--- the pieces of a part with-moves no b in it, and what follows it
+-- a part with no byte b, and then b, is the first piece
 pub pieces-past : (b : ℕ) (p q : List ℕ) → Free b p → pieces b (p ++ b ∷ q) ≡ p ∷ pieces b q
 pieces-past b [] q h = rw (eq-eqb b b refl)
 pieces-past b (x ∷ p) q h = rw (ne-eqb x b (h .0), pieces-past b p q (h .1))
@@ -20,7 +20,7 @@ pub pieces-last : (b : ℕ) (p : List ℕ) → Free b p → pieces b p ≡ p ∷
 pieces-last b [] h = refl
 pieces-last b (x ∷ p) h = rw (ne-eqb x b (h .0), pieces-last b p (h .1))
 
--- one byte more at the end
+-- a part with one byte more at its end
 pub cut-more : (t : List ℕ) (at i : ℕ) → at ≤ i → i < length t → cut t at (i + 1) ≡ cut t at i ++ getD t i 0 ∷ []
 cut-more t at i l h =
     let e : i + 1 - at ≡ i - at + 1 = omega arith in
@@ -28,7 +28,7 @@ cut-more t at i l h =
     let j : i - at < length (drop at t) = simp length-drop (omega arith) in
     ap (λ n. take n (drop at t)) e ∙ take-more (drop at t) (i - at) 0 j ∙ rw (getD-drop, k)
 
--- and at the front
+-- a part in two
 pub cut-two : (t : List ℕ) (at r end : ℕ) → at ≤ r → r ≤ end → end ≤ length t → cut t at end ≡ cut t at r ++ cut t r end
 cut-two t at r end l m h =
     let e : end - at ≡ (r - at) + (end - r) = omega arith in
@@ -54,7 +54,7 @@ pieces-cut b t at r end l m h f e =
     ap (pieces b) (cut-two t at r end l le h ∙ ap (λ (xs : List ℕ). cut t at r ++ xs) (cut-first t r end m h) ∙ ap (λ x. cut t at r ++ x ∷ cut t (r + 1) end) e) ∙
     pieces-past b (cut t at r) (cut t (r + 1) end) f
 
--- there is always a piece
+-- a byte more on the first piece leaves a first piece
 onto-first-some : (x : ℕ) (ps : List (List ℕ)) → (p : List ℕ) × (qs : List (List ℕ)) × (onto-first x ps ≡ p ∷ qs)
 onto-first-some x [] = (x ∷ [], [], refl)
 onto-first-some x (p ∷ ps) = (x ∷ p, ps, refl)

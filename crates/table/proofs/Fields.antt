@@ -125,7 +125,7 @@ label-from k l h =
       ]
     ]
 
--- the first word
+-- a line of the move kind begins with its word
 pub kind-move : (w : List ℕ) → kind-of w ≡ Kind.Move → w ≡ codes "move"
 kind-move w h =
     elim (cases-bool (sameBytes w (codes "table"))) [

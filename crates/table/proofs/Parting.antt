@@ -33,7 +33,7 @@ parted-pieces b (x ∷ xs) =
       | inr f ↦ rw f (parted-onto-first b x (pieces b xs) ∙ ap (λ (ys : List ℕ). x ∷ ys) (parted-pieces b xs))
     ]
 
--- and parts with-moves no b in them are the pieces
+-- parts with no byte b in them, parted by b, are the pieces
 pub pieces-parted : (b : ℕ) (p : List ℕ) (ps : List (List ℕ)) → All (Free b) (p ∷ ps) → pieces b (parted b (p ∷ ps)) ≡ p ∷ ps
 pieces-parted b p [] h = pieces-last b p (h .0)
 pieces-parted b p (q ∷ ps) h = pieces-past b p (parted b (q ∷ ps)) (h .0) ∙ ap (λ (qs : List (List ℕ)). p ∷ qs) (pieces-parted b q ps (h .1))
