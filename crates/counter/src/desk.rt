@@ -1,12 +1,17 @@
-// Keeps the tables that are entered, and counts the texts that are refused.
+// Keeps the tables that are entered, with where each can get stuck alone, and counts the texts that are refused.
 ghost use mathlib.Core.Path.{_≡_};
 ghost use Prim.Native.Nat.{_+_};
-ghost use Rattle.std.specs.Of.Vec.{vec-len};
+ghost use Rattle.std.specs.Of.Vec.{vec-len, vec-items};
 ghost use Rattle.std.specs.Results.{Cases};
 ghost use Rattle.std.specs.Vec.{made};
-ghost use Rattle.counter.specs.Entries.{found-in, entry-of, refused-by, told};
+ghost use Rattle.table.specs.Table.{read-text, moves-of};
+ghost use Rattle.counter.specs.Entries.{found-in, entry-of, refused-by, told, Holds, stuck-alone};
 use crate::entry::Entry;
+use labels::NameSet;
+use search::StuckState;
+use search::search;
 use source::table::Move;
+use source::table::TableSource;
 use std::alloc::AllocError;
 use std::alloc::Global;
 use std::error::AnyError;
@@ -16,10 +21,32 @@ use table::Summary;
 // No table that is kept has more moves.
 const ROOM: usize = 1024;
 
+// No table has more states.
+const MOST_STATES: usize = 255;
+
 #[derive(Drop)]
 pub struct Table {
     pub summary: Summary,
     pub moves: Vec<Move>,
+}
+
+impl Table {
+    // Where the table can get stuck if nobody answers on any name.
+    fn stuck_alone(&self) -> Option<StuckState>
+        ensures { λ r. ⌜ r ≡ stuck-alone (now (self .entry) .summary) (vec-items (now (self .entry) .moves)) ⌝ }
+    {
+        let source = source::table::Table {
+            states: self.summary.states,
+            start: self.summary.start,
+            moves: self.moves.as_slice(),
+        };
+        let mut sheet = [0; MOST_STATES];
+        match search(&source, NameSet(u32::MAX), &mut sheet) {
+            Ok(found) => found,
+            // There is room for any table, and one that is too large has no state to get stuck in.
+            Err(_) => None,
+        }
+    }
 }
 
 #[derive(Drop)]
@@ -57,7 +84,7 @@ impl Desk {
 
     // Keeps the table of a text under the next number, or counts the text as refused.
     pub fn enter(&mut self, text: &[u8]) -> Result<Entry, AnyError>
-        ensures value { λ r. ⌜ made r (λ e. e ≡ entry-of (vec-len (now (self .entry) .tables)) (found-in (now (text .entry)))) ⌝ }
+        ensures value { λ r. ⌜ made r (λ e. e ≡ entry-of (vec-len (now (self .entry) .tables)) (found-in (now (text .entry))) (moves-of (read-text (now (text .entry))))) ⌝ }
         ensures texts { λ r. ⌜ Cases r (λ _. now (self .exit) .texts ≡ now (self .entry) .texts + 1) (λ _. now (self .exit) .texts ≡ now (self .entry) .texts) ⌝ }
         ensures refused { λ r. ⌜ Cases r (λ e. now (self .exit) .refused ≡ refused-by (now (self .entry) .refused) e) (λ _. now (self .exit) .refused ≡ now (self .entry) .refused) ⌝ }
     {
@@ -68,9 +95,10 @@ impl Desk {
             Ok(table) => {
                 let number = self.tables.len();
                 let summary = table.summary;
+                let stuck = table.stuck_alone();
                 self.tables.push(table)?;
                 self.texts = texts;
-                Ok(Entry::Kept(number, summary))
+                Ok(Entry::Kept(number, summary, stuck))
             }
             Err(fault) => {
                 self.refused += 1;
@@ -83,7 +111,8 @@ impl Desk {
 
 // The table that a text holds, or why the text is refused.
 fn table_of(heap: Global, text: &[u8]) -> Result<Result<Table, Fault>, AllocError>
-    ensures { λ r. ⌜ made r (λ t. told t ≡ found-in (now (text .entry))) ⌝ }
+    ensures told { λ r. ⌜ made r (λ t. told t ≡ found-in (now (text .entry))) ⌝ }
+    ensures moves { λ r. ⌜ made r (λ t. Holds t (moves-of (read-text (now (text .entry))))) ⌝ }
 {
     let checked = table::check(text);
     let most = match checked.found() {

@@ -1,5 +1,6 @@
 // The statement: an item for each call, and what they come to at the end.
 use crate::entry::Entry;
+use labels::NAMES;
 use std::fmt;
 use std::io;
 use std::io::ErrorKind;
@@ -36,16 +37,40 @@ pub impl fmt::Display for Item<'_> as ItemDisplay {
 
 fn outcome<W: fmt::Write>(entry: &Entry, f: &mut fmt::Formatter<W>) -> fmt::Result {
     match entry {
-        Entry::Kept(number, summary) => {
+        Entry::Kept(number, summary, stuck) => {
             let states = Many(summary.states as u64, "state");
             let moves = Many(summary.moves as u64, "move");
             writeln!(
                 f,
                 "  table {number}: {states}, start {}, {moves}",
                 summary.start
-            )
+            )?;
+            match stuck {
+                Some(found) => writeln!(
+                    f,
+                    "  alone it can get stuck in state {}, waiting for {}",
+                    found.state,
+                    Act(found.label)
+                ),
+                None => writeln!(f, "  alone it cannot get stuck"),
+            }
         }
         Entry::Refused(fault) => writeln!(f, "  {fault}"),
+    }
+}
+
+// A visible label: `?` or `!` and its name.
+#[derive(Clone, Copy)]
+struct Act(u8);
+
+impl fmt::Display for Act as ActDisplay {
+    fn fmt<W: fmt::Write>(&self, f: &mut fmt::Formatter<W>) -> fmt::Result {
+        let label = self.0;
+        if label < NAMES {
+            write!(f, "?{label}")
+        } else {
+            write!(f, "!{}", label - NAMES)
+        }
     }
 }
 

@@ -1,4 +1,3 @@
-pub mod Told
 pub mod Visiting
 pub mod Finding
 pub mod Worked

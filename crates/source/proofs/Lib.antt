@@ -1,3 +1,4 @@
 pub mod Masks
 pub mod Initials
 pub mod Tabled
+pub mod Told

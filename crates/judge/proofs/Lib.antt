@@ -1,0 +1,9 @@
+pub mod Struck
+pub mod Held
+pub mod Zeros
+pub mod Refused
+pub mod Standing
+pub mod AnyRelation
+pub mod Promised
+pub mod Truth
+pub mod Computed

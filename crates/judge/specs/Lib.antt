@@ -1,0 +1,3 @@
+pub mod Verdicts
+pub mod Promises
+pub mod Cases

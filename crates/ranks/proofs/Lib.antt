@@ -1,0 +1,5 @@
+pub mod Counts
+pub mod After
+pub mod Striking
+pub mod Running
+pub mod Filled
