@@ -1,5 +1,6 @@
 //! The five calls on a house in definitions: which tests each makes, what it answers and leaves, what a run of calls
 //! leaves, and the promise. Here are the types that they speak of.
+#![tactic(auto)]
 
 mod display;
 mod environment;

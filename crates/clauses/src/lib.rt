@@ -1,4 +1,5 @@
 //! The candidates of a pair of states, and the first that fails.
+#![tactic(auto)]
 
 pub mod counterexample;
 mod moves;

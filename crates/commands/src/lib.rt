@@ -1,4 +1,5 @@
 //! The calls on a house as lines of text.
+#![tactic(auto)]
 
 mod command;
 mod names;

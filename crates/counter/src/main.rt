@@ -1,3 +1,5 @@
+#![tactic(auto)]
+
 // Takes calls on a house from the input, one to a line, makes them in a new house, and prints a statement of them.
 mod file;
 mod script;

@@ -1,3 +1,5 @@
+#![tactic(auto)]
+
 // Makes the calls of each line of the input in a new house, and writes what comes of each, with the seats after it.
 mod answer;
 mod call;

@@ -1,4 +1,5 @@
 //! The verdict on two tables as one line, for those who have only numbers and byte slices.
+#![tactic(auto)]
 
 mod calls;
 mod entering;

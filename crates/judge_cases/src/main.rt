@@ -1,3 +1,5 @@
+#![tactic(auto)]
+
 // Judges what each line of the input names, and writes the verdict and the workspace.
 mod answer;
 mod case;

@@ -1,3 +1,5 @@
+#![tactic(auto)]
+
 ghost use Rattle.std.specs.Prelude.{◌≡◌, ℕ, ◌<◌, not, ◌&&◌, ◌||◌, MatchOption, ◌==◌};
 ghost use Rattle.lts.specs.Labels.{member, complement, name_of};
 ghost use Rattle.lts.specs.Machines.{some_below};

@@ -1,3 +1,5 @@
+#![tactic(auto)]
+
 // Makes the call that each line of the input names, and writes the length of the line and what both buffers hold then.
 mod answer;
 mod case;

@@ -1,4 +1,5 @@
 //! What the programs that run test cases share: tables with their moves, texts on one line, bytes as they are shown.
+#![tactic(auto)]
 
 pub mod one_line;
 pub mod shown;

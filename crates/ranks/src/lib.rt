@@ -1,4 +1,5 @@
 //! Pairs of states struck in rounds, until a round strikes none.
+#![tactic(auto)]
 
 mod covers;
 pub mod filling;

@@ -1,4 +1,5 @@
 //! Runs of calls: a list of calls made on a new house, with the promise that the house keeps.
+#![tactic(auto)]
 
 ghost use Rattle.std.specs.Prelude.{◌≡◌, reverse, length};
 ghost use Rattle.lts.specs.Systems.{Lts};

@@ -1,4 +1,5 @@
 //! Sources: what answers questions about one machine. The trait, and tables as the sources that layers are put over.
+#![tactic(auto)]
 
 pub mod refusal;
 pub mod source;

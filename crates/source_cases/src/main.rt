@@ -1,3 +1,5 @@
+#![tactic(auto)]
+
 // Builds the pile of layers that each line of the input names, and writes what it answers to every question.
 mod answer;
 mod case;

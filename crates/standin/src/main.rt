@@ -1,3 +1,5 @@
+#![tactic(auto)]
+
 // Prints the verdict on the two tables in the standard input, as one line.
 use installer::{LINE_ROOM, verdict_line_of_input};
 use std::io;

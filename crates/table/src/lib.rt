@@ -1,4 +1,5 @@
 //! Reads the text of a table: its states, its start and its moves, or the first fault in it.
+#![tactic(auto)]
 
 mod checked;
 mod display;

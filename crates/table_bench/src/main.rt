@@ -1,3 +1,5 @@
+#![tactic(auto)]
+
 // Reads a full text and searches a sparse machine, as often as its two arguments say, and prints sums over the answers.
 mod searches;
 mod tally;

@@ -1,3 +1,5 @@
+#![tactic(auto)]
+
 // Reads a text from each line of the input, and writes what the reader of tables answers to it.
 mod answer;
 

@@ -1,3 +1,5 @@
+#![tactic(auto)]
+
 // Tests of the reader of tables: each refusal, and each bound from both sides.
 #[cfg(test)]
 mod tests {
