@@ -12,4 +12,4 @@ returns c = λ q.
     let b = c.args.other in
     halves (record { low = bit_and a.low b.low; high = bit_and a.high b.high }) (λ q. in_row a q && in_row b q) q
     (λ h. member_and a.low b.low q ∙ ap (λ (x : Bool). x && member b.low q) (sym (low_half a q h)) ∙ ap (λ (x : Bool). in_row a q && x) (sym (low_half b q h)))
-    (λ h. member_and a.high b.high (q _ 128) ∙ ap (λ (x : Bool). x && member b.high (q _ 128)) (sym (high_half a q h)) ∙ ap (λ (x : Bool). in_row a q && x) (sym (high_half b q h)))
+    (λ h. member_and a.high b.high (q - 128) ∙ ap (λ (x : Bool). x && member b.high (q - 128)) (sym (high_half a q h)) ∙ ap (λ (x : Bool). in_row a q && x) (sym (high_half b q h)))

@@ -24,6 +24,6 @@ pub returns-then-state : goal.returns-then-state
 returns-then-state c = λ q _.
     let r = c.args.self in
     let s = c.args.state in
-    halves (record { low = r.low; high = bit_or r.high ((1 * 2 ^ (s _ 128)) % 2 ^ 128) }) (λ q. in_row r q || eqb s q) q
+    halves (record { low = r.low; high = bit_or r.high ((1 * 2 ^ (s - 128)) % 2 ^ 128) }) (λ q. in_row r q || eqb s q) q
     (λ h. sym (low_half r q h) ∙ apart r s q (λ e. omega arith))
-    (λ h. member_or r.high ((1 * 2 ^ (s _ 128)) % 2 ^ 128) (q _ 128) ∙ ap (λ (b : Bool). member r.high (q _ 128) || b) (member_one_shl 128 (s _ 128) (q _ 128) (omega arith) ∙ shifted s q (omega arith) h) ∙ ap (λ (b : Bool). b || eqb s q) (sym (high_half r q h)))
+    (λ h. member_or r.high ((1 * 2 ^ (s - 128)) % 2 ^ 128) (q - 128) ∙ ap (λ (b : Bool). member r.high (q - 128) || b) (member_one_shl 128 (s - 128) (q - 128) (omega arith) ∙ shifted s q (omega arith) h) ∙ ap (λ (b : Bool). b || eqb s q) (sym (high_half r q h)))
