@@ -7,7 +7,7 @@ use Rattle.dense.specs.declared.row.Row.{Row}
 use Rattle.dense.specs.Rows.{in_row}
 use Rattle.dense.proofs.Tests.{adds, adds_none}
 use Rattle.dense.proofs.machine.copy_row.Goals as goal
-use Rattle.dense.proofs.machine.copy_row.Goals.{then-has-move, else-has-move}
+use Rattle.dense.proofs.machine.copy_row.Goals.{then-has_move, else-has_move}
 
 -- no move on what is no initial
 unmoved : (M : Machine) (p l q : ℕ) → Sound M → initial M p l ≡ false → M.move p l q ≡ false
@@ -31,11 +31,11 @@ pub loop-q-preserved : goal.loop-q-preserved
 loop-q-preserved g c =
     let q = c.loop-q.q in
     let f = (g.S.Source.means c.args.source.now).move c.args.p c.args.label in
-    elim c.if-has-move.branch [
-      | then-has-move w ↦ λ x h.
+    elim c.if-has_move.branch [
+      | then-has_move w ↦ λ x h.
           ap (λ (r : Row). in_row r x) w.found-is ∙ w.with-found.ensures x h ∙ ap (λ (b : Bool). b || eqb q x) (c.loop-q.invariant x h)
-          ∙ adds f q x (sym w.if-has-move.ensures)
-      | else-has-move w ↦ λ x h. ap (λ (r : Row). in_row r x) w.found-is ∙ c.loop-q.invariant x h ∙ adds_none f q x (sym w.if-has-move.ensures)
+          ∙ adds f q x (sym w.if-has_move.ensures)
+      | else-has_move w ↦ λ x h. ap (λ (r : Row). in_row r x) w.found-is ∙ c.loop-q.invariant x h ∙ adds_none f q x (sym w.if-has_move.ensures)
     ]
 
 -- a move leads to a state

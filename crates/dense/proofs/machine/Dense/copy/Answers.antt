@@ -4,8 +4,8 @@ use Rattle.source.proofs.Told.{told}
 use Rattle.dense.proofs.Copied.{copy_is, none_copied}
 use Rattle.dense.proofs.machine.Dense.copy.Goals as goal
 
-pub copy-rows-requires : goal.copy-rows-requires
-copy-rows-requires g c =
+pub copy_rows-requires : goal.copy_rows-requires
+copy_rows-requires g c =
     let M = g.S.Source.means c.args.source.now in
     sym (told c.size-n.result M.size c.size-n.ensures c.if-n-eq256.false).0
 
