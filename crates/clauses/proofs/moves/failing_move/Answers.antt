@@ -12,16 +12,16 @@ loop-label-init g c = λ a b z.
     let M = g.P.Source.means c.args.module.now in
     let N = meaning c.args.contract.now in
     no_label M N (reads c.args.own.now c.args.n) (reads c.args.sheet.now c.args.m) (λ a b. stood_by c.args.round (rank_at c.args.ranks.now (a * c.args.m + b))) c.args.p c.args.q a (g.P.Source.sound c.args.module.now)
-    (subst (λ (x : ℕ). some_below x (λ t. reads c.args.own.now c.args.n c.args.p t && initial M t a) ≡ false) c.requires.states (sym (c.move-labels-left.ensures a b) ∙ z))
+    (subst (λ (x : ℕ). some_below x (λ t. reads c.args.own.now c.args.n c.args.p t && initial M t a) ≡ false) c.requires.states (sym (c.move_labels-left.ensures a b) ∙ z))
 
-pub returns-then-is-some : goal.returns-then-is-some
+pub returns-then-is_some : goal.returns-then-is_some
 unfolding first_move
-returns-then-is-some g c =
+returns-then-is_some g c =
     let M = g.P.Source.means c.args.module.now in
     let N = meaning c.args.contract.now in
     let f = first_move_on M N (reads c.args.own.now c.args.n) (reads c.args.sheet.now c.args.m) (λ a b. stood_by c.args.round (rank_at c.args.ranks.now (a * c.args.m + b))) c.args.p c.args.q in
-    let r = some_is c.failing-on-found.result (sym c.if-is-some.ensures) in
-    r.1 ∙ sym (left_is f c.loop-label.left.0 c.in-Some.label c.take_lowest.new.self.0 r.0 c.loop-label.invariant c.in-Some.ensures (sym c.failing-on-found.ensures ∙ r.1))
+    let r = some_is c.failing_on-found.result (sym c.if-is_some.ensures) in
+    r.1 ∙ sym (left_is f c.loop-label.left.0 c.in-Some.label c.take_lowest.new.self.0 r.0 c.loop-label.invariant c.in-Some.ensures (sym c.failing_on-found.ensures ∙ r.1))
 
 pub loop-label-preserved : goal.loop-label-preserved
 loop-label-preserved g c =
@@ -29,7 +29,7 @@ loop-label-preserved g c =
     let N = meaning c.args.contract.now in
     let f = first_move_on M N (reads c.args.own.now c.args.n) (reads c.args.sheet.now c.args.m) (λ a b. stood_by c.args.round (rank_at c.args.ranks.now (a * c.args.m + b))) c.args.p c.args.q in
     left_less f c.loop-label.left.0 c.in-Some.label c.take_lowest.new.self.0 c.loop-label.invariant c.in-Some.ensures
-    (sym c.failing-on-found.ensures ∙ is_none c.failing-on-found.result (sym c.if-is-some.ensures))
+    (sym c.failing_on-found.ensures ∙ is_none c.failing_on-found.result (sym c.if-is_some.ensures))
 
 pub returns : goal.returns
 unfolding first_move
@@ -37,4 +37,4 @@ returns g c =
     let M = g.P.Source.means c.args.module.now in
     let N = meaning c.args.contract.now in
     let f = first_move_on M N (reads c.args.own.now c.args.n) (reads c.args.sheet.now c.args.m) (λ a b. stood_by c.args.round (rank_at c.args.ranks.now (a * c.args.m + b))) c.args.p c.args.q in
-    sym (left_none f c.loop-label.left.0 c.in-default.ensures.0 c.loop-label.invariant)
+    sym (left_none f c.loop-label.left.0 c.in_default.ensures.0 c.loop-label.invariant)

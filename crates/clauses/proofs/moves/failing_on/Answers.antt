@@ -5,7 +5,7 @@ use Rattle.clauses.specs.Candidates.{when, move_fails, first_move_on}
 use Rattle.clauses.proofs.Firsts.{first_is, first_none}
 use Rattle.clauses.proofs.Reading.{rows_fit}
 use Rattle.clauses.proofs.moves.failing_on.Goals as goal
-use Rattle.clauses.proofs.moves.failing_on.Goals.{else-weak-steps-via-then-weak-steps+else-not-matched, else-weak-steps-via-else-weak-steps}
+use Rattle.clauses.proofs.moves.failing_on.Goals.{else-weak_steps-via-then-weak_steps+else-not-matched, else-weak_steps-via-else-weak_steps}
 
 pub matched-requires : goal.matched-requires
 matched-requires g c = record {
@@ -20,15 +20,15 @@ unfolding first_move_on move_fails
 returns-then-not-matched g c =
     let M = g.P.Source.means c.args.module.now in
     sym (first_is _ M.size c.loop-state.state (c.args.label, c.loop-state.state) (omega arith) (λ i h. cond-false _ _ _ (c.loop-state.invariant i h))
-    (cond-true _ _ _ (and_from _ _ (sym c.if-weak-steps.ensures) (not_from_false _ (sym c.if-not-matched.ensures)))))
+    (cond-true _ _ _ (and_from _ _ (sym c.if-weak_steps.ensures) (not_from_false _ (sym c.if-not-matched.ensures)))))
 
 pub loop-state-preserved : goal.loop-state-preserved
 unfolding move_fails
 loop-state-preserved g c =
     below_more _ _ c.loop-state.invariant
-    (elim c.else-weak-steps.branch [
-      | else-weak-steps-via-then-weak-steps+else-not-matched w ↦ and_right _ _ (not_from_true _ (sym w.if-not-matched.ensures))
-      | else-weak-steps-via-else-weak-steps w ↦ and_left _ _ (sym w.if-weak-steps.ensures)
+    (elim c.else-weak_steps.branch [
+      | else-weak_steps-via-then-weak_steps+else-not-matched w ↦ and_right _ _ (not_from_true _ (sym w.if-not-matched.ensures))
+      | else-weak_steps-via-else-weak_steps w ↦ and_left _ _ (sym w.if-weak_steps.ensures)
     ])
 
 pub returns : goal.returns

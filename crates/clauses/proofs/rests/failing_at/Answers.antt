@@ -26,7 +26,7 @@ returns-then-not-found g c =
     let N = g.Q.Source.means c.args.contract.now in
     let U = reads c.args.sheet.now c.args.m in
     let x = c.initials-allowed.result.0 in
-    let r = c.find-rests-found in
+    let r = c.find_rests-found in
     sym (bare_first M N U c.args.q c.args.state
     (bare M N U c.args.q c.args.state c.args.m x r.result.labels.0 r.result.any c.requires.others (initials_member M c.args.state x c.initials-allowed.ensures) r.ensures.any r.ensures.labels
     ∙ c.if-not-found.true))
@@ -37,7 +37,7 @@ loop-label-init g c =
     let N = g.Q.Source.means c.args.contract.now in
     let U = reads c.args.sheet.now c.args.m in
     let x = c.initials-allowed.result.0 in
-    let r = c.find-rests-found in
+    let r = c.find_rests-found in
     let same = initials_member M c.args.state x c.initials-allowed.ensures in (
       (λ a b z. on_covered M N U c.args.q c.args.state a
           (labelled M N U c.args.q c.args.state c.args.m x r.result.labels.0 r.result.any c.requires.others same r.ensures.any r.ensures.labels a b
@@ -53,7 +53,7 @@ returns-then-not-has g c =
     let s = c.args.state in
     let U = reads c.args.sheet.now c.args.m in
     let x = c.initials-allowed.result.0 in
-    let r = c.find-rests-found in
+    let r = c.find_rests-found in
     let k = c.in-Some.label in
     let t = c.in-Some.ensures in
     let same = initials_member M s x c.initials-allowed.ensures in
@@ -71,7 +71,7 @@ loop-label-preserved g c =
     let s = c.args.state in
     let U = reads c.args.sheet.now c.args.m in
     let x = c.initials-allowed.result.0 in
-    let r = c.find-rests-found in
+    let r = c.find_rests-found in
     let k = c.in-Some.label in
     let t = c.in-Some.ensures in
     let same = initials_member M s x c.initials-allowed.ensures in
@@ -90,7 +90,7 @@ returns g c =
     let s = c.args.state in
     let U = reads c.args.sheet.now c.args.m in
     let x = c.initials-allowed.result.0 in
-    let r = c.find-rests-found in
+    let r = c.find_rests-found in
     let same = initials_member M s x c.initials-allowed.ensures in
     sym (bare_covered M N U q s (bare M N U q s c.args.m x r.result.labels.0 r.result.any c.requires.others same r.ensures.any r.ensures.labels ∙ c.if-not-found.false)
-    ∙ left_none (rest_on M N U q s) c.loop-label.left.0 c.in-default.ensures.0 c.loop-label.invariant.0)
+    ∙ left_none (rest_on M N U q s) c.loop-label.left.0 c.in_default.ensures.0 c.loop-label.invariant.0)

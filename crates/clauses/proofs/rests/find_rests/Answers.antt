@@ -9,7 +9,7 @@ use Rattle.clauses.specs.Candidates.{rests_at}
 use Rattle.clauses.proofs.Somes.{some_first, some_next, some_last, or_swap}
 use Rattle.lts.specs.Some.{some_in}
 use Rattle.clauses.proofs.rests.find_rests.Goals as goal
-use Rattle.clauses.proofs.rests.find_rests.Goals.{in-Some, in-default}
+use Rattle.clauses.proofs.rests.find_rests.Goals.{in-Some, in_default}
 
 pub loop-v-init : goal.loop-v-init
 loop-v-init g c =
@@ -20,7 +20,7 @@ loop-v-preserved g c =
     let N = g.Q.Source.means c.args.contract.now in
     let v = c.loop-v.v in
     let f = rests_at N (reads c.args.sheet.now c.args.m) c.args.q (member c.args.allowed.0) in
-    elim c.match-rest-initials.branch [
+    elim c.match-rest_initials.branch [
       | in-Some w ↦ (
         w.any-is ∙ sym (some_in (v + 1) f v (omega arith) w.in-Some.ensures.0),
         λ k h.
@@ -32,10 +32,10 @@ loop-v-preserved g c =
             (ap (λ (b : Bool). b && initial N v k) w.in-Some.ensures.0 ∙ sym (initials_member N v x w.in-Some.ensures.1 k h))
             ∙ sym (some_last v (λ v. f v && initial N v k)),
       )
-      | in-default w ↦ (
-        w.any-is ∙ c.loop-v.invariant.0 ∙ sym (some_next v f w.in-default.ensures),
+      | in_default w ↦ (
+        w.any-is ∙ c.loop-v.invariant.0 ∙ sym (some_next v f w.in_default.ensures),
         λ k h. ap (λ (z : ℕ). member z k) (ap (λ z. z.0) w.labels-is) ∙ c.loop-v.invariant.1 k h
-            ∙ sym (some_next v (λ v. f v && initial N v k) (and_left (f v) (initial N v k) w.in-default.ensures)),
+            ∙ sym (some_next v (λ v. f v && initial N v k) (and_left (f v) (initial N v k) w.in_default.ensures)),
       )
     ]
 

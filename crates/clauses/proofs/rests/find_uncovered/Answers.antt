@@ -9,10 +9,10 @@ use Rattle.clauses.specs.Candidates.{first_rest_at}
 use Rattle.clauses.specs.Uncovered.{uncovered_by}
 use Rattle.clauses.proofs.rests.find_uncovered.Goals as goal
 use Rattle.clauses.proofs.rests.find_uncovered.Goals.{
-  then-is-stable+then-is-some,
-  else-is-stable,
-  else-is-stable-via-then-is-stable+else-is-some,
-  else-is-stable-via-else-is-stable,
+  then-is_stable+then-is_some,
+  else-is_stable,
+  else-is_stable-via-then-is_stable+else-is_some,
+  else-is_stable-via-else-is_stable,
 }
 
 pub loop-state-init : goal.loop-state-init
@@ -27,15 +27,15 @@ loop-state-preserved g c =
     let U = reads c.args.sheet.now c.args.m in
     let f = uncovered_by M N U c.args.q in
     let rest = option_is_some (first_rest_at M N U c.args.q i) in
-    elim c.if-is-stable.branch [
-      | then-is-stable+then-is-some w ↦ λ x h.
+    elim c.if-is_stable.branch [
+      | then-is_stable+then-is_some w ↦ λ x h.
           ap (λ (r : Row). in_row r x) w.found-is ∙ w.with-found.ensures x h ∙ ap (λ (b : Bool). b || eqb i x) (c.loop-state.invariant x h)
-          ∙ adds f i x (and_from (stable M i) rest (sym w.if-is-stable.ensures) (ap option_is_some (sym w.failing_at.ensures) ∙ sym w.if-is-some.ensures))
-      | else-is-stable w ↦ λ x h.
+          ∙ adds f i x (and_from (stable M i) rest (sym w.if-is_stable.ensures) (ap option_is_some (sym w.failing_at.ensures) ∙ sym w.if-is_some.ensures))
+      | else-is_stable w ↦ λ x h.
           ap (λ (r : Row). in_row r x) w.found-is ∙ c.loop-state.invariant x h
-          ∙ adds_none f i x (elim w.else-is-stable.branch [
-            | else-is-stable-via-then-is-stable+else-is-some v ↦ and_right (stable M i) rest (ap option_is_some (sym v.failing_at.ensures) ∙ sym v.if-is-some.ensures)
-            | else-is-stable-via-else-is-stable v ↦ and_left (stable M i) rest (sym v.if-is-stable.ensures)
+          ∙ adds_none f i x (elim w.else-is_stable.branch [
+            | else-is_stable-via-then-is_stable+else-is_some v ↦ and_right (stable M i) rest (ap option_is_some (sym v.failing_at.ensures) ∙ sym v.if-is_some.ensures)
+            | else-is_stable-via-else-is_stable v ↦ and_left (stable M i) rest (sym v.if-is_stable.ensures)
           ])
     ]
 

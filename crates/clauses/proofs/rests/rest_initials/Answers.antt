@@ -21,9 +21,9 @@ returns-then-not-reaches g c =
     let N = g.Q.Source.means c.args.contract.now in
     and_left _ _ (sym c.if-not-reaches.ensures)
 
-pub returns-then-not-is-stable : goal.returns-then-not-is-stable
+pub returns-then-not-is_stable : goal.returns-then-not-is_stable
 unfolding rests_at
-returns-then-not-is-stable g c = and_right _ _ (and_left _ _ (sym c.if-not-is-stable.ensures))
+returns-then-not-is_stable g c = and_right _ _ (and_left _ _ (sym c.if-not-is_stable.ensures))
 
 same_inside : (N : Machine) (v x a : ℕ) → ((l : ℕ) → l < 64 → member x l ≡ initial N v l) →
     each_below 64 (λ l. implies (initial N v l) (member a l)) ≡ each_below 64 (λ l. implies (member x l) (member a l))
@@ -35,7 +35,7 @@ returns-then-inside g c =
     let N = g.Q.Source.means c.args.contract.now in
     let x = c.initials-initials.result.0 in (
       and_from _ _ (sym c.if-not-reaches.ensures)
-          (and_from _ _ (sym c.if-not-is-stable.ensures)
+          (and_from _ _ (sym c.if-not-is_stable.ensures)
           (same_inside N c.args.v x c.args.allowed.0 (initials_member N c.args.v x c.initials-initials.ensures) ∙ sym c.if-inside.ensures)),
       c.initials-initials.ensures,
     )

@@ -6,8 +6,8 @@ use Rattle.clauses.specs.Ranks.{reads}
 use Rattle.clauses.specs.Uncovered.{uncovered_by, uncovered_in}
 use Rattle.clauses.proofs.rests.uncovered.Goals as goal
 
-pub find-uncovered-requires : goal.find-uncovered-requires
-find-uncovered-requires g c =
+pub find_uncovered-requires : goal.find_uncovered-requires
+find_uncovered-requires g c =
     let N = g.Q.Source.means c.args.contract.now in
     record {
       others = sym (told c.size-m.result N.size c.size-m.ensures c.if-m-eq256.false).0;

@@ -12,7 +12,7 @@ scan-requires g c =
     let M = g.P.Source.means c.args.module.now in
     let N = meaning c.args.contract.now in
     let f = c.has_pair.ensures in
-    let yes = c.if-not-has-pair.false in
+    let yes = c.if-not-has_pair.false in
     let a = f.sizes yes in
     record {
       states = sym (told c.size-n.result M.size c.size-n.ensures (λ z. omega arith)).0;
@@ -23,9 +23,9 @@ scan-requires g c =
       room = f.room yes;
     }
 
-pub returns-then-not-has-pair : goal.returns-then-not-has-pair
+pub returns-then-not-has_pair : goal.returns-then-not-has_pair
 unfolding first_in
-returns-then-not-has-pair g c =
+returns-then-not-has_pair g c =
     let M = g.P.Source.means c.args.module.now in
     let N = meaning c.args.contract.now in
     let n = c.size-n.result in
@@ -46,7 +46,7 @@ returns-then-not-has-pair g c =
     let room = leb-true (base M N + 2 * pairs M N) (length w) y.1 in
     let en = told_here M n p c.size-n.ensures h in
     let em = told_here N m q c.size-m.ensures l in
-    absurd (both_ways c.has_pair.result c.if-not-has-pair.true
+    absurd (both_ways c.has_pair.result c.if-not-has_pair.true
     (c.has_pair.ensures.all (omega arith) (omega arith) (omega arith) (omega arith) (omega (arith, base_same M N n m en em, pairs_same M N n m en em)))))
     (λ (t : test ≡ false). t)
     (cases_Bool test)))
@@ -62,7 +62,7 @@ returns g c =
     let q = c.args.q in
     let w = c.args.workspace.now in
     let f = c.has_pair.ensures in
-    let here = c.if-not-has-pair.false in
+    let here = c.if-not-has_pair.false in
     let s = f.sizes here in
     let en : n ≡ M.size = sym (told n M.size c.size-n.ensures (λ z. omega arith)).0 in
     let em : m ≡ N.size = sym (told m N.size c.size-m.ensures (λ z. omega arith)).0 in

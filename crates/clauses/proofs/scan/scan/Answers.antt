@@ -31,16 +31,16 @@ returns-in-Some g c =
     ap (λ o. or_else (as_move o) rest)
     (sym c.in-Some.is ∙ c.failing_move.ensures ∙ cut-move M N c.args.n c.args.m c.args.round c.args.p c.args.q w)
 
-pub returns-in-Some-failing-rest : goal.returns-in-Some-failing-rest
-returns-in-Some-failing-rest g c =
+pub returns-in-Some-failing_rest : goal.returns-in-Some-failing_rest
+returns-in-Some-failing_rest g c =
     let M = g.P.Source.means c.args.module.now in
     let N = meaning c.args.contract.now in
     let w = c.args.workspace.now in
     let n = c.args.n in
     let m = c.args.m in
-    ap (λ o. or_else None (as_rest o)) (sym c.in-Some-failing-rest.is ∙ c.failing_rest.ensures ∙ cut-rest M N n m c.args.round c.args.p c.args.q w)
+    ap (λ o. or_else None (as_rest o)) (sym c.in-Some-failing_rest.is ∙ c.failing_rest.ensures ∙ cut-rest M N n m c.args.round c.args.p c.args.q w)
     ∙ ap (λ o. or_else (as_move o) (as_rest (first_rest M N (reads w n) (reads (drop (n * n) w) m) c.args.p c.args.q)))
-    (sym c.in-default.is ∙ c.failing_move.ensures ∙ cut-move M N n m c.args.round c.args.p c.args.q w)
+    (sym c.in_default.is ∙ c.failing_move.ensures ∙ cut-move M N n m c.args.round c.args.p c.args.q w)
 
 pub returns : goal.returns
 returns g c =
@@ -49,6 +49,6 @@ returns g c =
     let w = c.args.workspace.now in
     let n = c.args.n in
     let m = c.args.m in
-    ap (λ o. or_else None (as_rest o)) (sym c.in-default-failing-rest.is ∙ c.failing_rest.ensures ∙ cut-rest M N n m c.args.round c.args.p c.args.q w)
+    ap (λ o. or_else None (as_rest o)) (sym c.in_default-failing_rest.is ∙ c.failing_rest.ensures ∙ cut-rest M N n m c.args.round c.args.p c.args.q w)
     ∙ ap (λ o. or_else (as_move o) (as_rest (first_rest M N (reads w n) (reads (drop (n * n) w) m) c.args.p c.args.q)))
-    (sym c.in-default.is ∙ c.failing_move.ensures ∙ cut-move M N n m c.args.round c.args.p c.args.q w)
+    (sym c.in_default.is ∙ c.failing_move.ensures ∙ cut-move M N n m c.args.round c.args.p c.args.q w)
