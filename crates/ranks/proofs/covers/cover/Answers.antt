@@ -18,7 +18,7 @@ loop-p-preserved c =
     let few = s.few.0 in
     let e = s.states in (
       length-set _ _ _ ∙ c.loop-p.invariant.0,
-      set_more (λ p (r : Row). (q : ℕ) → q < 256 → in_row r q ≡ (ltb q c.args.sides.now.m && not (some_below 256 (λ t. in_rows c.args.sides.now.own p t && in_rows c.uncovered-rows-bare.result q t))))
+      set_more (λ p (r : Row). (q : ℕ) → q < 256 → in_row r q ≡ (ltb q c.args.sides.now.m && not (some_below 256 (λ t. in_rows c.args.sides.now.own p t && in_rows c.uncovered_rows-bare.result q t))))
           c.loop-p.rows c.loop-p.p none c.cover_row.result
           (let z = c.loop-p.invariant.0 in let x = c.loop-p-test.true in omega arith) c.loop-p.invariant.1 c.cover_row.ensures,
     )
@@ -35,9 +35,9 @@ returns c = λ p q h l.
     let em = s.others in
     let small = s.few.1 in
     let own = in_rows c.args.sides.now.own p in
-    let bare = in_rows c.uncovered-rows-bare.result q in
+    let bare = in_rows c.uncovered_rows-bare.result q in
     let cut : take (length w - n * n) (drop (n * n) w) ≡ drop (cells M) w = part_end (n * n) w ∙ ap (λ (x : ℕ). drop x w) (square M N n m en em) in
     c.loop-p.invariant.1 p (let y = c.loop-p-test.false in omega arith) q (omega arith)
     ∙ ap (λ (b : Bool). b && not (some_below 256 (λ t. own t && bare t))) (lt-ltb q m (omega arith))
     ∙ covered_is M N p q (drop (cells M) w) own bare s.few.0 l c.requires.ready.second (λ t k. s.own p t h k)
-    (λ t k. c.uncovered-rows-bare.ensures q t (omega arith) k ∙ ap (λ (v : List ℕ). uncovered_in M N v q t) cut)
+    (λ t k. c.uncovered_rows-bare.ensures q t (omega arith) k ∙ ap (λ (v : List ℕ). uncovered_in M N v q t) cut)

@@ -48,21 +48,21 @@ pub survey-sides-requires : goal.survey-sides-requires
 survey-sides-requires c = record {
   states = c.requires.states;
   others = c.requires.others;
-  ready = cleared-ready (meaning c.args.module.now) (meaning c.args.contract.now) c.args.n c.args.m c.requires.states c.requires.others c.args.workspace.now c.fill_closure.new.sheet c.fill-closure-2.new.sheet
-      c.requires.room c.fill_closure.ensures c.fill-closure-2.ensures c.fill-closure-2.auto.sheet c.fill_closure.auto.sheet
+  ready = cleared-ready (meaning c.args.module.now) (meaning c.args.contract.now) c.args.n c.args.m c.requires.states c.requires.others c.args.workspace.now c.fill_closure.new.sheet c.fill_closure-2.new.sheet
+      c.requires.room c.fill_closure.ensures c.fill_closure-2.ensures c.fill_closure-2.auto.sheet c.fill_closure.auto.sheet
       c.clear.new.workspace c.clear.auto.workspace c.clear.ensures.before c.clear.ensures.behind;
 }
 
 pub cover-covered-requires : goal.cover-covered-requires
 cover-covered-requires c = record {
   surveyed = c.survey-sides.ensures;
-  ready = cleared-ready (meaning c.args.module.now) (meaning c.args.contract.now) c.args.n c.args.m c.requires.states c.requires.others c.args.workspace.now c.fill_closure.new.sheet c.fill-closure-2.new.sheet
-      c.requires.room c.fill_closure.ensures c.fill-closure-2.ensures c.fill-closure-2.auto.sheet c.fill_closure.auto.sheet
+  ready = cleared-ready (meaning c.args.module.now) (meaning c.args.contract.now) c.args.n c.args.m c.requires.states c.requires.others c.args.workspace.now c.fill_closure.new.sheet c.fill_closure-2.new.sheet
+      c.requires.room c.fill_closure.ensures c.fill_closure-2.ensures c.fill_closure-2.auto.sheet c.fill_closure.auto.sheet
       c.clear.new.workspace c.clear.auto.workspace c.clear.ensures.before c.clear.ensures.behind;
 }
 
-pub strike-all-requires : goal.strike-all-requires
-strike-all-requires c =
+pub strike_all-requires : goal.strike_all-requires
+strike_all-requires c =
     let M = meaning c.args.module.now in
     let N = meaning c.args.contract.now in
     let n = c.args.n in
@@ -71,13 +71,13 @@ strike-all-requires c =
     let em = c.requires.others in
     let was = c.args.workspace.now in
     let one = c.fill_closure.new.sheet in
-    let two = c.fill-closure-2.new.sheet in
-    let a = closed M N n m en em was one two c.requires.room c.fill_closure.ensures c.fill-closure-2.ensures c.fill-closure-2.auto.sheet c.fill_closure.auto.sheet in
+    let two = c.fill_closure-2.new.sheet in
+    let a = closed M N n m en em was one two c.requires.room c.fill_closure.ensures c.fill_closure-2.ensures c.fill_closure-2.auto.sheet c.fill_closure.auto.sheet in
     let b = c.clear.new.workspace in
     record {
       surveyed = c.survey-sides.ensures;
       covers = c.cover-covered.ensures;
-      ready = cleared-ready M N n m en em was one two c.requires.room c.fill_closure.ensures c.fill-closure-2.ensures c.fill-closure-2.auto.sheet c.fill_closure.auto.sheet b c.clear.auto.workspace c.clear.ensures.before c.clear.ensures.behind;
+      ready = cleared-ready M N n m en em was one two c.requires.room c.fill_closure.ensures c.fill_closure-2.ensures c.fill_closure-2.auto.sheet c.fill_closure.auto.sheet b c.clear.auto.workspace c.clear.ensures.before c.clear.ensures.behind;
       clear = clear_ranks M N b (cleared_zeros M N n m en em a b c.clear.ensures.zeros);
     }
 
@@ -91,16 +91,16 @@ returns c =
     let em = c.requires.others in
     let was = c.args.workspace.now in
     let one = c.fill_closure.new.sheet in
-    let two = c.fill-closure-2.new.sheet in
-    let a = closed M N n m en em was one two c.requires.room c.fill_closure.ensures c.fill-closure-2.ensures c.fill-closure-2.auto.sheet c.fill_closure.auto.sheet in
+    let two = c.fill_closure-2.new.sheet in
+    let a = closed M N n m en em was one two c.requires.room c.fill_closure.ensures c.fill_closure-2.ensures c.fill_closure-2.auto.sheet c.fill_closure.auto.sheet in
     let b = c.clear.new.workspace in
     let d = c.strike_all.new.workspace in
     let x : BesideRanks M N a b = cleared_beside M N n m en em a b c.clear.ensures.before c.clear.ensures.behind in
     let p : Prepared M N d =
     prepared_kept M N b d c.strike_all.auto.workspace c.strike_all.ensures.rest
-    (cleared-ready M N n m en em was one two c.requires.room c.fill_closure.ensures c.fill-closure-2.ensures c.fill-closure-2.auto.sheet c.fill_closure.auto.sheet b c.clear.auto.workspace c.clear.ensures.before c.clear.ensures.behind) in
-    let tail = filled_tail M N was a (closed_is M N n m en em was one two c.requires.room c.fill_closure.ensures c.fill-closure-2.ensures c.fill-closure-2.auto.sheet c.fill_closure.auto.sheet) in
-    let small : (i : ℕ) → get_or d i 0 < 256 = (λ i. omega (arith, c.type-inv.workspace i)) in
+    (cleared-ready M N n m en em was one two c.requires.room c.fill_closure.ensures c.fill_closure-2.ensures c.fill_closure-2.auto.sheet c.fill_closure.auto.sheet b c.clear.auto.workspace c.clear.ensures.before c.clear.ensures.behind) in
+    let tail = filled_tail M N was a (closed_is M N n m en em was one two c.requires.room c.fill_closure.ensures c.fill_closure-2.ensures c.fill_closure-2.auto.sheet c.fill_closure.auto.sheet) in
+    let small : (i : ℕ) → get_or d i 0 < 256 = (λ i. omega (arith, c.type_inv.workspace i)) in
     record {
       whole = written M N was d small p c.strike_all.ensures.full (behind_all M N was a b d tail x c.strike_all.ensures.rest);
       last = c.strike_all.ensures.last;

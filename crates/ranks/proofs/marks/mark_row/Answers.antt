@@ -27,8 +27,8 @@ column_none f p q a b none = ⊎_elim
     (λ (e : b ≡ q → ⊥). ap (λ (x : Bool). eqb a p && (x && f b)) (below_next q b (λ z. e (sym z))))
     (cases_eq b q)
 
-pub put-rank-requires : goal.put-rank-requires
-put-rank-requires c = let z = c.loop-q.invariant.len in let y = c.requires in let x = c.loop-q-test.true in omega arith
+pub put_rank-requires : goal.put_rank-requires
+put_rank-requires c = let z = c.loop-q.invariant.len in let y = c.requires in let x = c.loop-q-test.true in omega arith
 
 pub loop-q-preserved : goal.loop-q-preserved
 loop-q-preserved c =

@@ -10,7 +10,7 @@ use Rattle.ranks.specs.Marks.{Marked}
 use Rattle.ranks.specs.Steps.{in_rows, lost}
 use Rattle.ranks.proofs.Marking.{mark_none, mark_same, mark_both}
 use Rattle.ranks.proofs.marks.mark_rows.Goals as goal
-use Rattle.ranks.proofs.marks.mark_rows.Goals.{then-not-is-empty, else-not-is-empty}
+use Rattle.ranks.proofs.marks.mark_rows.Goals.{then-not-is_empty, else-not-is_empty}
 
 -- row p lies inside
 row_inside : (p n m : ℕ) → p < n → p * m + m ≤ n * m
@@ -52,8 +52,8 @@ row_passed f p a b e = ⊎_elim
     (λ (i : p ≡ a → ⊥). ap (λ (t : Bool). t && f a b) (below_next p a i))
     (cases_eq p a)
 
-pub mark-row-requires : goal.mark-row-requires
-mark-row-requires c = let z = c.loop-p.invariant.0.len in let y = c.requires.room in let x = row_inside c.loop-p.p c.args.n c.args.m c.loop-p-test.true in omega arith
+pub mark_row-requires : goal.mark_row-requires
+mark_row-requires c = let z = c.loop-p.invariant.0.len in let y = c.requires.room in let x = row_inside c.loop-p.p c.args.n c.args.m c.loop-p-test.true in omega arith
 
 pub loop-p-init : goal.loop-p-init
 loop-p-init c = (
@@ -77,17 +77,17 @@ loop-p-preserved c =
     let inside : (q : ℕ) → q < m → in_row r q ≡ f p q = (λ q h. cut q (omega arith) ∙ ap (λ (b : Bool). f p q && b) (lt-ltb q m h) ∙ and_true (f p q)) in
     let told = struck_some m r (f p) few cut in
     let fits = row_inside p n m c.loop-p-test.true in
-    elim c.if-not-is-empty.branch [
-      | then-not-is-empty w ↦
-          let some : some_below m (f p) ≡ true = sym told ∙ not-false (some_below 256 (in_row r)) (sym w.if-not-is-empty.ensures) in (
+    elim c.if-not-is_empty.branch [
+      | then-not-is_empty w ↦
+          let some : some_below m (f p) ≡ true = sym told ∙ not-false (some_below 256 (in_row r)) (sym w.if-not-is_empty.ensures) in (
             subst (λ (x : List ℕ). Marked at m (at + 2 * (n * m)) k (λ a b. ltb a (p + 1) && f a b) was x) (sym w.workspace-is)
                 (mark_both at m (at + 2 * (n * m)) (at + 2 * (p * m + m)) k (λ a b. ltb a p && f a b) (λ a b. eqb a p && in_row r b) (λ a b. ltb a (p + 1) && f a b) was c.loop-p.workspace w.mark_row.new.workspace
                 (omega arith) c.loop-p.invariant.0 w.mark_row.ensures
                 (λ a b h x. row_joined f (in_row r) p k a b x (inside b h))),
             λ x h. ap (λ (s : Row). in_row s x) w.changed-is ∙ w.with-changed.ensures x h ∙ ap (λ (b : Bool). b || eqb p x) (c.loop-p.invariant.1 x h) ∙ adds (λ y. some_below m (f y)) p x some,
           )
-      | else-not-is-empty w ↦
-          let none : some_below m (f p) ≡ false = sym told ∙ not-true (some_below 256 (in_row r)) (sym w.if-not-is-empty.ensures) in (
+      | else-not-is_empty w ↦
+          let none : some_below m (f p) ≡ false = sym told ∙ not-true (some_below 256 (in_row r)) (sym w.if-not-is_empty.ensures) in (
             subst (λ (x : List ℕ). Marked at m (at + 2 * (n * m)) k (λ a b. ltb a (p + 1) && f a b) was x) (sym w.workspace-is)
                 (mark_same at m (at + 2 * (n * m)) k was (λ a b. ltb a p && f a b) (λ a b. ltb a (p + 1) && f a b) c.loop-p.workspace c.loop-p.invariant.0
                 (λ a b h. row_passed f p a b (none_at m (f p) none b h))),

@@ -43,15 +43,15 @@ pub loop-next-preserved : goal.loop-next-preserved
 loop-next-preserved c =
     let M = meaning c.args.module.now in
     let N = meaning c.args.contract.now in
-    let r = c.strike-round-changed in
+    let r = c.strike_round-changed in
     let e = r.ensures in (
       running_more M N c.args.workspace.now c.loop-next.workspace c.loop-next.done c.loop-next.invariant.0 r.new.workspace (some_below 256 (in_row r.result)) r.auto.workspace
-          e.ranks e.rest e.more (not-false (some_below 256 (in_row r.result)) (sym c.if-is-empty.ensures)),
+          e.ranks e.rest e.more (not-false (some_below 256 (in_row r.result)) (sym c.if-is_empty.ensures)),
       e.board,
     )
 
-pub overflow-add-done : goal.overflow-add-done
-overflow-add-done c =
+pub overflow_add-done : goal.overflow_add-done
+overflow_add-done c =
     let d = c.args.module.now in
     let e = c.args.contract.now in
     let M = meaning d in
@@ -60,8 +60,8 @@ overflow-add-done c =
     let l = pairs_small M N (dense_sound d.states d.start d.rows) (dense_sound e.states e.start e.rows) in
     omega arith
 
-pub overflow-add-done-in-loop-next : goal.overflow-add-done-in-loop-next
-overflow-add-done-in-loop-next c =
+pub overflow_add-done-in-loop-next : goal.overflow_add-done-in-loop-next
+overflow_add-done-in-loop-next c =
     let d = c.args.module.now in
     let e = c.args.contract.now in
     let M = meaning d in
@@ -70,8 +70,8 @@ overflow-add-done-in-loop-next c =
     let l = pairs_small M N (dense_sound d.states d.start d.rows) (dense_sound e.states e.start e.rows) in
     omega arith
 
-pub strike-round-changed-requires : goal.strike-round-changed-requires
-strike-round-changed-requires c =
+pub strike_round-changed-requires : goal.strike_round-changed-requires
+strike_round-changed-requires c =
     let M = meaning c.args.module.now in
     let N = meaning c.args.contract.now in
     record {
@@ -81,17 +81,17 @@ strike-round-changed-requires c =
       counts = omega arith;
     }
 
-pub returns-then-is-empty : goal.returns-then-is-empty
-returns-then-is-empty c =
+pub returns-then-is_empty : goal.returns-then-is_empty
+returns-then-is_empty c =
     let M = meaning c.args.module.now in
     let N = meaning c.args.contract.now in
     let was = c.args.workspace.now in
     let w = c.loop-next.workspace in
-    let r = c.strike-round-changed in
+    let r = c.strike_round-changed in
     let v = r.new.workspace in
     let e = r.ensures in
     let more = some_below 256 (in_row r.result) in
-    let none : more ≡ false = not-true more (sym c.if-is-empty.ensures) in
+    let none : more ≡ false = not-true more (sym c.if-is_empty.ensures) in
     record {
       full = running_ranks M N was w c.loop-next.done c.loop-next.invariant.0 v more r.auto.workspace e.ranks e.rest e.more none;
       rest = running_beside M N was w c.loop-next.done c.loop-next.invariant.0 v more r.auto.workspace e.ranks e.rest e.more;
@@ -102,12 +102,12 @@ pub loop-next-smaller : goal.loop-next-smaller
 loop-next-smaller c =
     let M = meaning c.args.module.now in
     let N = meaning c.args.contract.now in
-    let r = c.strike-round-changed in
+    let r = c.strike_round-changed in
     let e = r.ensures in
     let s = c.requires.surveyed in
     let run : Running M N c.args.workspace.now r.new.workspace (c.loop-next.done + 1) =
     running_more M N c.args.workspace.now c.loop-next.workspace c.loop-next.done c.loop-next.invariant.0 r.new.workspace (some_below 256 (in_row r.result)) r.auto.workspace
-    e.ranks e.rest e.more (not-false (some_below 256 (in_row r.result)) (sym c.if-is-empty.ensures))
+    e.ranks e.rest e.more (not-false (some_below 256 (in_row r.result)) (sym c.if-is_empty.ensures))
     in
     let a = few M N c.args.workspace.now r.new.workspace (c.loop-next.done + 1) run in
     let b = pairs_same M N c.args.sides.now.n c.args.sides.now.m s.states s.others in

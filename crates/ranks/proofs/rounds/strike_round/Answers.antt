@@ -19,8 +19,8 @@ marked_sized M N n m k rows next was w en em f =
     subst (λ (y : ℕ). Marked (M.size * M.size + y * y) y (M.size * M.size + y * y + 2 * (M.size * y)) k (λ a b. ltb a M.size && lost rows next a b) was w) em
     (subst (λ (x : ℕ). Marked (x * x + m * m) m (x * x + m * m + 2 * (x * m)) k (λ a b. ltb a x && lost rows next a b) was w) en f)
 
-pub mark-rows-requires : goal.mark-rows-requires
-mark-rows-requires c =
+pub mark_rows-requires : goal.mark_rows-requires
+mark_rows-requires c =
     let s = c.requires.surveyed in
     let M = meaning c.args.module.now in
     let N = meaning c.args.contract.now in

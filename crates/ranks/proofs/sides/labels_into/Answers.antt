@@ -10,7 +10,7 @@ use Rattle.dense.specs.Sounds.{dense_sound}
 use Rattle.dense.proofs.Tests.{adds, adds_none}
 use Rattle.ranks.proofs.Surveying.{arrives}
 use Rattle.ranks.proofs.sides.labels_into.Goals as goal
-use Rattle.ranks.proofs.sides.labels_into.Goals.{then-not-is-empty, else-not-is-empty}
+use Rattle.ranks.proofs.sides.labels_into.Goals.{then-not-is_empty, else-not-is_empty}
 
 pub loop-label-init : goal.loop-label-init
 loop-label-init c = λ a h. ap (λ (x : ℕ). member x a) c.empty-found.ensures ∙ member_none a ∙ sym (and_left (ltb a 0) _ (le-ltb a 0 (omega arith)))
@@ -25,13 +25,13 @@ loop-label-preserved c =
     let sound = dense_sound d.states d.start d.rows in
     let small = sound.small in
     let told = arrives M k s (in_row c.with-alone.result) c.before-in-loop-label.result sound c.requires (λ v h. c.with-alone.ensures v (omega arith) ∙ ap (λ (b : Bool). b || eqb s v) (c.empty.ensures v)) c.before-in-loop-label.ensures in
-    elim c.if-not-is-empty.branch [
-      | then-not-is-empty w ↦ λ a h.
+    elim c.if-not-is_empty.branch [
+      | then-not-is_empty w ↦ λ a h.
           ap (λ (x : LabelSet). member x.0 a) w.found-is ∙ w.with-found.ensures a h ∙ ap (λ (b : Bool). b || eqb k a) (c.loop-label.invariant a h)
-          ∙ adds f k a (sym told ∙ not-false (some_below 256 (in_row c.before-in-loop-label.result)) (sym w.if-not-is-empty.ensures))
-      | else-not-is-empty w ↦ λ a h.
+          ∙ adds f k a (sym told ∙ not-false (some_below 256 (in_row c.before-in-loop-label.result)) (sym w.if-not-is_empty.ensures))
+      | else-not-is_empty w ↦ λ a h.
           ap (λ (x : LabelSet). member x.0 a) w.found-is ∙ c.loop-label.invariant a h
-          ∙ adds_none f k a (sym told ∙ not-true (some_below 256 (in_row c.before-in-loop-label.result)) (sym w.if-not-is-empty.ensures))
+          ∙ adds_none f k a (sym told ∙ not-true (some_below 256 (in_row c.before-in-loop-label.result)) (sym w.if-not-is_empty.ensures))
     ]
 
 pub returns : goal.returns

@@ -8,8 +8,8 @@ use Rattle.clauses.proofs.Reading.{square}
 use Rattle.ranks.proofs.Surveying.{closure_read}
 use Rattle.ranks.proofs.sides.survey.Goals as goal
 
-pub closure-rows-requires : goal.closure-rows-requires
-closure-rows-requires c =
+pub closure_rows-requires : goal.closure_rows-requires
+closure_rows-requires c =
     let d = c.args.module.now in
     let M = meaning d in
     let N = meaning c.args.contract.now in
@@ -19,8 +19,8 @@ closure-rows-requires c =
     let e = c.requires.states in
     record { room = omega arith; few = omega arith }
 
-pub closure-rows-requires-2 : goal.closure-rows-requires-2
-closure-rows-requires-2 c =
+pub closure_rows-requires-2 : goal.closure_rows-requires-2
+closure_rows-requires-2 c =
     let d = c.args.contract.now in
     let M = meaning c.args.module.now in
     let N = meaning d in
@@ -52,6 +52,6 @@ returns c =
       few = ((dense_sound d.states d.start d.rows).small, (dense_sound e.states e.start e.rows).small);
       own = λ p t h k. c.closure_rows.ensures p t (omega arith) k ∙ closure_read M w n p t en c.requires.ready.first h;
       other = λ q t h k.
-          c.closure-rows-2.ensures q t (omega arith) k ∙ ap (λ (v : List ℕ). ltb t m && reads v m q t) cut ∙ closure_read N (drop (cells M) w) m q t em c.requires.ready.second h;
+          c.closure_rows-2.ensures q t (omega arith) k ∙ ap (λ (v : List ℕ). ltb t m && reads v m q t) cut ∙ closure_read N (drop (cells M) w) m q t em c.requires.ready.second h;
       arriving = λ p l h k. c.arriving_labels.ensures p l (omega arith) k;
     }

@@ -21,12 +21,12 @@ loop-state-preserved c =
     elim c.if-has.branch [
       | then-has w ↦ λ p q h l.
           let f : ℕ → Bool = λ p'. implies (in_row c.args.changed p') (all_answered M N S p q p') in
-          ap (λ rows. in_rows rows p q) w.next_is ∙ w.strike_state.ensures p q h l
+          ap (λ rows. in_rows rows p q) w.next-is ∙ w.strike_state.ensures p q h l
           ∙ ap (λ (b : Bool). b && all_answered M N S p q k) (c.loop-state.invariant p q h l)
           ∙ ap (λ (b : Bool). (in_rows was p q && each_below k f) && implies b (all_answered M N S p q k)) w.if-has.ensures
           ∙ each_more (in_rows was p q) k f
       | else-has w ↦ λ p q h l.
           let f : ℕ → Bool = λ p'. implies (in_row c.args.changed p') (all_answered M N S p q p') in
-          ap (λ rows. in_rows rows p q) w.next_is ∙ c.loop-state.invariant p q h l
+          ap (λ rows. in_rows rows p q) w.next-is ∙ c.loop-state.invariant p q h l
           ∙ each_skip (in_rows was p q) k f (ap (λ (b : Bool). implies b (all_answered M N S p q k)) (sym w.if-has.ensures))
     ]

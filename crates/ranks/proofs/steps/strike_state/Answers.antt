@@ -20,10 +20,10 @@ loop-label-preserved c =
     let was = c.args.next.now in
     elim c.if-has.branch [
       | then-has w ↦ λ p q h l.
-          ap (λ rows. in_rows rows p q) w.next_is ∙ w.strike_label.ensures p q h l ∙ ap (λ (b : Bool). b && answered M N S p q s k) (c.loop-label.invariant p q h l)
+          ap (λ rows. in_rows rows p q) w.next-is ∙ w.strike_label.ensures p q h l ∙ ap (λ (b : Bool). b && answered M N S p q s k) (c.loop-label.invariant p q h l)
           ∙ each_more (in_rows was p q) k (answered M N S p q s)
       | else-has w ↦ λ p q h l.
           let none = no_step M p k s (sym (c.requires.surveyed.arriving s k (let z = c.requires.inside in let y = c.requires.surveyed.states in omega arith) c.loop-label-test.true) ∙ sym w.if-has.ensures) in
-          ap (λ rows. in_rows rows p q) w.next_is ∙ c.loop-label.invariant p q h l
+          ap (λ rows. in_rows rows p q) w.next-is ∙ c.loop-label.invariant p q h l
           ∙ each_skip (in_rows was p q) k (answered M N S p q s) (ap (λ (b : Bool). implies b (steps_into N (S s) k q)) none)
     ]
