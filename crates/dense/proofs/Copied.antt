@@ -1,14 +1,13 @@
 -- What the rows of a copy tell.
-use Rattle.std.proofs.Common.{◌≡◌, ℕ, ◌<◌, ◌≤◌, max, Bool, true, false, cond, not, ◌&&◌, eqb, ltb, leb, List, [], get_or, sym, refl, ap, ◌∙◌, subst, ⊎_elim, arith}
+use Rattle.std.proofs.Common.{◌≡◌, ℕ, ◌<◌, ◌≤◌, Bool, true, false, cond, ◌&&◌, eqb, ltb, leb, List, sym, refl, ap, ◌∙◌, ⊎_elim, arith}
 use mathlib.Core.Path.{fun_ext}
-use Rattle.std.proofs.lemmas.Bool.{and_parts, and_from, and_left, lt-ltb, le-ltb, ltb-true, leb-true, le-leb, cases_Bool, cases_eq, cases_lt, cond-true, cond-false, eq-eqb, ne_eqb, both_ways}
-use Rattle.lts.specs.Machines.{Machine, Sound, some_below, initial}
+use Rattle.std.proofs.lemmas.Bool.{and_parts, and_from, and_left, lt-ltb, le-ltb, ltb-true, leb-true, le-leb, cases_Bool, cond-true, cond-false, ne_eqb, both_ways}
+use Rattle.lts.specs.Machines.{Machine, Sound, some_below}
 use Rattle.lts.specs.Some.{same, some_in, some_out}
 use Rattle.source.specs.Tables.{table_size, in_range}
 use Rattle.dense.specs.declared.row.Row.{Row}
-use Rattle.dense.specs.Rows.{in_row, none}
+use Rattle.dense.specs.Rows.{in_row}
 use Rattle.dense.specs.Copies.{row_at, dense_move, dense_machine, moves_into}
-use Rattle.dense.specs.Sounds.{dense_sound}
 use Rattle.dense.proofs.Tests.{some_alike}
 
 -- in range

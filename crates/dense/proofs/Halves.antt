@@ -1,10 +1,10 @@
 -- A row's members, half by half.
-use Rattle.std.proofs.Common.{◌≡◌, ℕ, ◌+◌, ◌-◌, ◌^◌, ◌<◌, ◌≤◌, Bool, true, false, cond, not, ◌&&◌, ◌||◌, eqb, ltb, sym, refl, ap, ◌∙◌, subst, ⊎_elim, arith}
-use Rattle.std.proofs.lemmas.Bool.{cond-true, cond-false, lt-ltb, le-ltb, cases_lt, eq-eqb, ne_eqb, cases_eq, cases_Bool, both_ways, or_left}
+use Rattle.std.proofs.Common.{◌≡◌, ℕ, ◌+◌, ◌-◌, ◌^◌, ◌<◌, ◌≤◌, Bool, true, false, not, eqb, ltb, sym, ap, ◌∙◌, ⊎_elim, arith}
+use Rattle.std.proofs.lemmas.Bool.{cond-true, cond-false, lt-ltb, le-ltb, cases_lt, eq-eqb, ne_eqb, cases_eq, cases_Bool, both_ways}
 use Rattle.lts.specs.Labels.{member}
 use Rattle.lts.specs.Machines.{some_below}
-use Rattle.lts.specs.Some.{same, some_in, some_out}
-use Rattle.labels.proofs.Bits.{member_none, member_above, same_members}
+use Rattle.lts.specs.Some.{some_in, some_out}
+use Rattle.labels.proofs.Bits.{member_none, same_members}
 use Rattle.dense.specs.declared.row.Row.{Row}
 use Rattle.dense.specs.Rows.{in_row}
 

@@ -1,6 +1,6 @@
 -- Tests of the numbers below a bound, and sets that a loop fills.
 use Rattle.std.proofs.Common.{◌≡◌, ℕ, ◌+◌, ◌<◌, ◌≤◌, Bool, true, false, not, ◌&&◌, ◌||◌, eqb, ltb, sym, refl, ap, ◌∙◌, subst, ⊎_elim, arith}
-use Rattle.std.proofs.lemmas.Bool.{lt-ltb, le-ltb, eq-eqb, ne_eqb, cases_eq, cases_lt, both_ways, cases_Bool}
+use Rattle.std.proofs.lemmas.Bool.{lt-ltb, le-ltb, eq-eqb, ne_eqb, cases_eq, cases_lt}
 use Rattle.lts.specs.Machines.{some_below}
 use Rattle.lts.specs.Some.{same, some_in, some_out}
 use Rattle.labels.proofs.Bits.{or_false}

@@ -1,5 +1,4 @@
 use Rattle.std.proofs.Common.{◌≡◌, ℕ, ◌<◌, length, get_or}
-use Rattle.source.specs.Masks.{initials_mask}
 use Rattle.dense.specs.Rows.{in_row, none}
 use Rattle.dense.proofs.machine.copy_state.Given as goal
 

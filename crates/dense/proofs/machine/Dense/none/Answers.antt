@@ -1,4 +1,4 @@
-use Rattle.std.proofs.Common.{◌<◌, replicate, refl, arith}
+use Rattle.std.proofs.Common.{replicate, refl, arith}
 use Rattle.std.proofs.lemmas.Bool.{false≢true}
 use Rattle.dense.specs.Copies.{no_machine}
 use Rattle.dense.proofs.Copied.{none_copied}

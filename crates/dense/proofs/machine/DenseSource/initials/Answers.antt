@@ -1,4 +1,4 @@
-use Rattle.std.proofs.Common.{◌≡◌, ℕ, ◌+◌, ◌^◌, ◌<◌, ◌≤◌, Bool, true, false, ◌&&◌, ◌||◌, eqb, ltb, sym, ap, ◌∙◌, subst, arith}
+use Rattle.std.proofs.Common.{◌≡◌, ℕ, ◌^◌, ◌<◌, Bool, ◌&&◌, ◌||◌, eqb, ltb, sym, ap, ◌∙◌, subst, arith}
 use Rattle.std.proofs.lemmas.Bool.{lt-ltb, le-ltb, and_left}
 use Rattle.lts.specs.Labels.{member}
 use Rattle.lts.specs.Machines.{initial, some_below}
@@ -6,7 +6,7 @@ use Rattle.labels.specs.declared.LabelSet.{LabelSet}
 use Rattle.labels.proofs.Bits.{member_none}
 use Rattle.source.proofs.Initials.{initials_outside}
 use Rattle.source.proofs.Masks.{mask_from}
-use Rattle.dense.specs.Copies.{dense_machine, dense_move}
+use Rattle.dense.specs.Copies.{dense_machine}
 use Rattle.dense.specs.Sounds.{dense_sound}
 use Rattle.dense.proofs.Tests.{adds, adds_none}
 use Rattle.dense.proofs.Copied.{row_some}

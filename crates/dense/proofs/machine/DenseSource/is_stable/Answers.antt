@@ -1,5 +1,5 @@
-use Rattle.std.proofs.Common.{◌≡◌, Bool, not, ◌&&◌, ltb, sym, ap, ◌∙◌, arith}
-use Rattle.std.proofs.lemmas.Bool.{lt-ltb, and_from}
+use Rattle.std.proofs.Common.{Bool, not, ◌&&◌, ltb, sym, ap, ◌∙◌, arith}
+use Rattle.std.proofs.lemmas.Bool.{lt-ltb}
 use Rattle.lts.specs.Machines.{initial}
 use Rattle.dense.specs.Copies.{dense_machine}
 use Rattle.dense.specs.Sounds.{dense_sound}

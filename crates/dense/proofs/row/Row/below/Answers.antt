@@ -1,6 +1,5 @@
 use Rattle.std.proofs.Common.{◌≡◌, ℕ, ◌-◌, ◌<◌, ◌≤◌, ltb, sym, ap, ◌∙◌, ⊎_elim, arith}
 use Rattle.std.proofs.lemmas.Bool.{lt-ltb, le-ltb, cases_lt}
-use Rattle.dense.specs.Rows.{in_row}
 use Rattle.dense.proofs.Halves.{halves}
 use Rattle.dense.proofs.row.Row.below.Goals as goal
 

@@ -1,4 +1,4 @@
-use Rattle.std.proofs.Common.{◌≡◌, ℕ, ◌-◌, Bool, ◌&&◌, sym, ap, ◌∙◌}
+use Rattle.std.proofs.Common.{◌-◌, Bool, ◌&&◌, sym, ap, ◌∙◌}
 use lib.Bits.{bit_and}
 use Rattle.lts.specs.Labels.{member}
 use Rattle.labels.proofs.Bits.{member_and}

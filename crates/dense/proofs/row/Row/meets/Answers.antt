@@ -1,6 +1,5 @@
-use Rattle.std.proofs.Common.{◌≡◌, ℕ, Bool, true, false, not, ◌&&◌, ap, ◌∙◌}
+use Rattle.std.proofs.Common.{not, ◌&&◌, ap, ◌∙◌}
 use Rattle.lts.specs.Machines.{some_below}
-use Rattle.lts.specs.Some.{same}
 use Rattle.dense.specs.Rows.{in_row}
 use Rattle.dense.proofs.Tests.{some_alike, not_not}
 use Rattle.dense.proofs.row.Row.meets.Goals as goal
