@@ -57,9 +57,9 @@ pub(crate) fn read_line(text: &[u8], place: Place, stage: Stage, line: usize) ->
 fn kind_of(word: &[u8]) -> Kind
     ensures { result ≡ kind_of word.now }
 {
-    if word == b"table" {
+    if word == b"table".as_slice() {
         Kind::Table
-    } else if word == b"move" {
+    } else if word == b"move".as_slice() {
         Kind::Move
     } else {
         Kind::Other

@@ -12,9 +12,9 @@ loop-read-init c =
     let a = all_to_come c.new-reader.result c.args.text.now e.text e.at e.line e.stage (sound_short c.args.text.now c.requires.sound) in
     (e.text, (ap is_ok a ∙ c.requires.sound, omega arith, refl, ap moves_of a))
 
-pub returns-in-default-read : goal.returns-in-default-read
-returns-in-default-read c =
-    no_fault (to_come c.loop-read.reader) c.in-default-read.field-0 c.loop-read.invariant.1.0 (on_fault c.loop-read.reader c.in-Some.read c.in-default-read.field-0 c.in-default-read.is c.in-Some.ensures.value)
+pub returns-in_default-read : goal.returns-in_default-read
+returns-in_default-read c =
+    no_fault (to_come c.loop-read.reader) c.in_default-read.field-0 c.loop-read.invariant.1.0 (on_fault c.loop-read.reader c.in-Some.read c.in_default-read.field-0 c.in_default-read.is c.in-Some.ensures.value)
 
 -- what `on_step` says of the step that was handed out, and what was stored before it
 module _ (c : goal.In-Step) where
@@ -36,11 +36,11 @@ loop-read-preserved-in-Step c = (
 
 pub loop-read-preserved : goal.loop-read-preserved
 loop-read-preserved c =
-    let o = on_first c.loop-read.reader c.next.new.self c.in-Some.read c.in-default-line.field-0 (c.in-Ok.is ∙ ap Ok c.in-default-line.is) c.in-Some.ensures.value c.in-Some.ensures.onward in
+    let o = on_first c.loop-read.reader c.next.new.self c.in-Some.read c.in_default-line.field-0 (c.in-Ok.is ∙ ap Ok c.in_default-line.is) c.in-Some.ensures.value c.in-Some.ensures.onward in
     (o.0.text ∙ c.loop-read.invariant.0, subst (Storing (moves_of (read_text c.args.text.now)) c.args.moves.now c.loop-read.moves c.loop-read.many) o.1 c.loop-read.invariant.1)
 
 pub returns : goal.returns
 returns c =
     let q = c.next.new.self in
-    let o = on_end c.loop-read.reader q c.in-default.ensures.value c.in-default.ensures.onward in
+    let o = on_end c.loop-read.reader q c.in_default.ensures.value c.in_default.ensures.onward in
     stored_all (moves_of (read_text c.args.text.now)) c.args.moves.now c.loop-read.moves c.loop-read.many q.stage q.line (subst (Storing (moves_of (read_text c.args.text.now)) c.args.moves.now c.loop-read.moves c.loop-read.many) o c.loop-read.invariant.1)

@@ -4,10 +4,10 @@ use Rattle.std.proofs.lemmas.Bool.Decides.{nat_tests}
 use Rattle.table.specs.Text.{figure_on}
 use Rattle.table.proofs.figure.digits.Goals as goal
 
-pub returns-in-default : goal.returns-in-default
-returns-in-default c =
+pub returns-in_default : goal.returns-in_default
+returns-in_default c =
     let e = at_drop_more (figure_on c.args.limit c.loop-b.n) c.args.s.now c.loop-b.b-index 0 c.loop-b-test.true in
-    let d = c.in-default.ensures in
+    let d = c.in_default.ensures in
     grind (arith, nat_tests)
 
 pub loop-b-preserved : goal.loop-b-preserved

@@ -6,23 +6,23 @@ use Rattle.table.proofs.Places.{nowhere}
 use Rattle.table.proofs.Shapes.{head_shape, two_of}
 use Rattle.table.proofs.head.head_of.Goals as goal
 
-pub returns-in-default : goal.returns-in-default
-returns-in-default c =
+pub returns-in_default : goal.returns-in_default
+returns-in_default c =
     let h : length c.args.rest.now ≡ 2 → ⊥ = λ e. omega (arith, ltb-true, ltb-false) in
     sym (head_shape c.args.line (part c.args.text.now) c.args.rest.now h)
 
-pub returns-in-default·2 : goal.returns-in-default·2
-returns-in-default·2 c =
+pub returns-in_default-2 : goal.returns-in_default-2
+returns-in_default-2 c =
     let h : length c.args.rest.now ≡ 2 → ⊥ = λ e. omega (arith, ltb-true, ltb-false) in
     sym (head_shape c.args.line (part c.args.text.now) c.args.rest.now h)
 
-pub bytes-at-requires : goal.bytes-at-requires
-bytes-at-requires c =
+pub bytes_at-requires : goal.bytes_at-requires
+bytes_at-requires c =
     let h : 0 < length c.args.rest.now = omega (arith, ltb-true, ltb-false) in
     All-get_or (Within c.args.text.now) c.args.rest.now 0 nowhere h c.requires
 
-pub bytes-at-requires-2 : goal.bytes-at-requires-2
-bytes-at-requires-2 c =
+pub bytes_at-requires-2 : goal.bytes_at-requires-2
+bytes_at-requires-2 c =
     let h : 1 < length c.args.rest.now = omega (arith, ltb-true, ltb-false) in
     All-get_or (Within c.args.text.now) c.args.rest.now 1 nowhere h c.requires
 
@@ -31,6 +31,6 @@ returns c =
     let h : length c.args.rest.now ≡ 2 = omega (arith, ltb-true, ltb-false) in
     let e = ap (λ (xs : List Place). head_of c.args.line (map (part c.args.text.now) xs)) (two_of c.args.rest.now nowhere h) in
     let a = c.bytes_at.ensures in
-    let b = c.bytes-at-2.ensures in
+    let b = c.bytes_at-2.ensures in
     let r = c.head_by.ensures in
     r ∙ simp (a, b) (sym e)

@@ -5,5 +5,5 @@ use Rattle.table.proofs.checked.Checked.store.Goals as goal
 
 pub fill-requires : goal.fill-requires
 fill-requires c =
-    let k = summary_known (read_text c.args.self.now.text.now) c.in-ok-summary.summary (sym c.args.self.now.told ∙ c.in-ok-summary.was) in
+    let k = summary_known (read_text c.args.self.now.text.now) c.in_ok-summary.summary (sym c.args.self.now.told ∙ c.in_ok-summary.was) in
     record { sound = k.0; room = omega (arith, k.1) }
