@@ -19,8 +19,8 @@ value_of A B M N room r a b e = e ∙ ap (λ (x : Machine). judged x B room) a �
 workspace_of : (A B M N : Machine) (was w : List ℕ) → A ≡ M → B ≡ N → w ≡ workspace_after A B was → w ≡ workspace_after M N was
 workspace_of A B M N was w a b e = e ∙ ap (λ (x : Machine). workspace_after x B was) a ∙ ap (λ (x : Machine). workspace_after M x was) b
 
-pub read-verdict-requires : goal.read-verdict-requires
-read-verdict-requires g c =
+pub read_verdict-requires : goal.read_verdict-requires
+read_verdict-requires g c =
     let M = meaning c.copy.new.self in
     let N = meaning c.copy-2.new.self in
     let was = c.args.workspace.now in

@@ -15,8 +15,8 @@ use Rattle.judge.proofs.Held.{final_at}
 use Rattle.judge.proofs.Zeros.{zeros_same}
 use Rattle.judge.proofs.judging.read_verdict.Goals as goal
 
-pub count-standing-requires : goal.count-standing-requires
-count-standing-requires c =
+pub count_standing-requires : goal.count_standing-requires
+count_standing-requires c =
     let M = meaning c.args.module.now in
     let N = meaning c.args.contract.now in
     let h = c.requires.holding in
@@ -30,8 +30,8 @@ count-standing-requires c =
       omega (arith, pairs_same M N n m en em, pairs_small M N (meaning_sound c.args.module.now) (meaning_sound c.args.contract.now)),
     )
 
-pub read-answer-requires : goal.read-answer-requires
-read-answer-requires c =
+pub read_answer-requires : goal.read_answer-requires
+read_answer-requires c =
     let M = meaning c.args.module.now in
     let N = meaning c.args.contract.now in
     let h = c.requires.holding in
