@@ -7,14 +7,14 @@ use Rattle.installer.proofs.Decimals.{figures_are_decimals}
 use Rattle.installer.proofs.Promised.{verdict_promises, too_short, enough}
 use Rattle.installer.proofs.calls.verdict_line.Goals as goal
 
-pub returns-then-line-lt-LINE-ROOM : goal.returns-then-line-lt-LINE-ROOM
-returns-then-line-lt-LINE-ROOM c =
+pub returns-then-line-lt-LINE_ROOM : goal.returns-then-line-lt-LINE_ROOM
+returns-then-line-lt-LINE_ROOM c =
     let a = c.args.module.now in
     let b = c.args.contract.now in
     let w = c.args.workspace.now in
     let was = c.args.line.now in
     let told = line_for a b (length w) in
-    let h = c.if-line-lt-LINE-ROOM.true in
+    let h = c.if-line-lt-LINE_ROOM.true in
     record {
       length = too_short was (length told) 0 h;
       line = too_short was (put_on told was) was h;
@@ -31,7 +31,7 @@ returns c =
     let w = c.args.workspace.now in
     let was = c.args.line.now in
     let told = line_for a b (length w) in
-    let h = c.if-line-lt-LINE-ROOM.false in
+    let h = c.if-line-lt-LINE_ROOM.false in
     let e : text_of c.line_of.result ≡ told = c.line_of.ensures.bytes ∙ ap line_of c.outcome_of.ensures.value in
     record {
       length = c.put.ensures.length ∙ ap length e ∙ enough was (length told) 0 h;

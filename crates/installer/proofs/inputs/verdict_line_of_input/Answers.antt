@@ -10,13 +10,13 @@ use Rattle.installer.proofs.Gaps.{first_gap}
 use Rattle.installer.proofs.Promised.{verdict_promises, too_short, enough, too_long, line_of_parts, workspace_of_parts}
 use Rattle.installer.proofs.inputs.verdict_line_of_input.Goals as goal
 
-pub returns-then-line-lt-LINE-ROOM : goal.returns-then-line-lt-LINE-ROOM
-returns-then-line-lt-LINE-ROOM c =
+pub returns-then-line-lt-LINE_ROOM : goal.returns-then-line-lt-LINE_ROOM
+returns-then-line-lt-LINE_ROOM c =
     let input = c.args.input.now in
     let w = c.args.workspace.now in
     let was = c.args.line.now in
     let told = line_for_input input (length w) in
-    let h = c.if-line-lt-LINE-ROOM.true in
+    let h = c.if-line-lt-LINE_ROOM.true in
     record {
       length = too_short was (length told) 0 h;
       line = too_short was (put_on told was) was h;
@@ -33,7 +33,7 @@ returns-then-input-gt-LONGEST c =
     let w = c.args.workspace.now in
     let was = c.args.line.now in
     let told = line_for_input input (length w) in
-    let h = c.if-line-lt-LINE-ROOM.false in
+    let h = c.if-line-lt-LINE_ROOM.false in
     let l = c.if-input-gt-LONGEST.true in
     let e : text_of c.line_of.result ≡ told =
     c.line_of.ensures.bytes ∙ too_long input (line_for (first_text input) (second_text input) (length w)) (line_of (Refused 4 0 0 0)) l in
@@ -52,10 +52,10 @@ returns c =
     let input = c.args.input.now in
     let w = c.args.workspace.now in
     let was = c.args.line.now in
-    let g = c.empty-line-gap.result in
+    let g = c.empty_line-gap.result in
     let a = take (g - 0) (drop 0 input) in
     let b = c.behind.result.now in
-    let all : g - 0 ≡ gap input = omega (arith, c.empty-line-gap.ensures.value) in
+    let all : g - 0 ≡ gap input = omega (arith, c.empty_line-gap.ensures.value) in
     let ea : a ≡ first_text input = ap (λ (n : ℕ). take n input) all in
     let eb : b ≡ second_text input = c.behind.ensures in
     let s = c.if-input-gt-LONGEST.false in

@@ -23,7 +23,7 @@ returns-in-Rest c =
     let l = c.in-Rest.label in
     let p = c.in-Rest.state in
     record {
-      bytes = four t (44 ∷ []) (50 ∷ []) (44 ∷ parted 44 (label_fields l)) (44 ∷ figure p) c.with-in-Rest.ensures.bytes c.with-in-Rest-2.ensures.bytes c.with-label-in-Rest.ensures.bytes c.number-in-Rest.ensures.bytes
+      bytes = four t (44 ∷ []) (50 ∷ []) (44 ∷ parted 44 (label_fields l)) (44 ∷ figure p) c.with-in-Rest.ensures.bytes c.with-in-Rest-2.ensures.bytes c.with_label-in-Rest.ensures.bytes c.number-in-Rest.ensures.bytes
           ∙ ap (λ (z : List ℕ). t ++ 44 ∷ z) (rested c.args.counterexample l p c.in-Rest.is);
       long = omega arith;
     }

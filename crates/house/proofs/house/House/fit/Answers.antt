@@ -16,16 +16,16 @@ use Rattle.house.proofs.Lawful.{machine_sound, pile_sound}
 use Rattle.house.proofs.Fitting.{judged_ok, exactly, helper_from}
 use Rattle.house.proofs.house.House.fit.Goals as goal
 
-pub returns-in-err-c : goal.returns-in-err-c
-returns-in-err-c c =
+pub returns-in_err-c : goal.returns-in_err-c
+returns-in_err-c c =
     let H = means c.args.self.now in
     let s = c.args.s in
     let pile = c.args.pile in
     let ws = c.args.workspace.now in
     let w = length ws in
     let ts = fit_tests H s pile in
-    let p = err_from_is_err_and c.from-residual.result c.from-residual.ensures.1 in
-    let f : Err p.0 ≡ _ = ap Err p.2 ∙ c.in-err-c.ensures in
+    let p = err_from_is_err_and c.from_residual.result c.from_residual.ensures.1 in
+    let f : Err p.0 ≡ _ = ap Err p.2 ∙ c.in_err-c.ensures in
     let i : Err p.0 ≡ fit_result H s pile w = sym (stopped ts (contract (seat_at H s)) p.0 f Err _) in
     let z = when_refused H (fit s pile w) (err_refused Reply.Fitted (fit_result H s pile w) p.0 i) in
     record {
@@ -36,22 +36,22 @@ returns-in-err-c c =
       history = z.1;
     }
 
-pub judge-pile-requires : goal.judge-pile-requires
-judge-pile-requires c =
+pub judge_pile-requires : goal.judge_pile-requires
+judge_pile-requires c =
     let h = c.args.self.now in
     let H = means h in
     let s = c.args.s in
     let n = length H.tables in
-    let q = all_pass (fit_tests H s c.args.pile) (contract (seat_at H s)) c.in-ok-c.c c.in-ok-c.ensures in
+    let q = all_pass (fit_tests H s c.args.pile) (contract (seat_at H s)) c.in_ok-c.c c.in_ok-c.ensures in
     record {
-      contract = ltb-true c.in-ok-c.c n
+      contract = ltb-true c.in_ok-c.c n
           (ap (λ (k : ℕ). ltb k n) q.1 ∙ contract_there h s (seat_at H s) (ltb-false 5 s q.0.0) refl (not-false (has_contract (seat_at H s)) q.0.1.0));
       table = leb-false n c.args.pile.table q.0.1.1.0;
       helper = q.0.1.1.1.0;
     }
 
-pub returns-in-err-verdict : goal.returns-in-err-verdict
-returns-in-err-verdict c =
+pub returns-in_err-verdict : goal.returns-in_err-verdict
+returns-in_err-verdict c =
     let H = means c.args.self.now in
     let s = c.args.s in
     let pile = c.args.pile in
@@ -60,10 +60,10 @@ returns-in-err-verdict c =
     let ws = c.args.workspace.now in
     let w = length ws in
     let ts = fit_tests H s pile in
-    let q = all_pass ts (contract (seat_at H s)) c.in-ok-c.c c.in-ok-c.ensures in
-    let p = err_from_is_err_and c.from-residual-in-err-verdict.result c.from-residual-in-err-verdict.ensures.1 in
+    let q = all_pass ts (contract (seat_at H s)) c.in_ok-c.c c.in_ok-c.ensures in
+    let p = err_from_is_err_and c.from_residual-in_err-verdict.result c.from_residual-in_err-verdict.ensures.1 in
     let j : Err p.0 ≡ yes_or_refused (judged P Q w) =
-    ap Err p.2 ∙ c.in-err-verdict.ensures.value ∙ ap (λ (k : ℕ). yes_or_refused (judged P (machine_at H.tables k) w)) q.1 in
+    ap Err p.2 ∙ c.in_err-verdict.ensures.value ∙ ap (λ (k : ℕ). yes_or_refused (judged P (machine_at H.tables k) w)) q.1 in
     let i : Err p.0 ≡ fit_result H s pile w = j ∙ sym (skipped ts q.0 Err (yes_or_refused (judged P Q w))) in
     let z = when_refused H (fit s pile w) (err_refused Reply.Fitted (fit_result H s pile w) p.0 i) in
     record {
@@ -83,8 +83,8 @@ put-requires c =
     let n = length ts in
     let s = c.args.s in
     let p = c.args.pile in
-    let k = c.in-ok-c.c in
-    let q = all_pass (fit_tests H s p) (contract (seat_at H s)) k c.in-ok-c.ensures in
+    let k = c.in_ok-c.c in
+    let q = all_pass (fit_tests H s p) (contract (seat_at H s)) k c.in_ok-c.ensures in
     let y = judged_yes (pile_machine ts p) (machine_at ts k) in
     let l = ltb-false 5 s q.0.0 in (
       l,
@@ -92,7 +92,7 @@ put-requires c =
           (ap (λ (x : ℕ). ltb x n) q.1 ∙ contract_there h s (seat_at H s) l refl (not-false (has_contract (seat_at H s)) q.0.1.0))
           (and_from (ltb p.table n) (helper_in n p.helper && y) (lt-ltb p.table n (leb-false n p.table q.0.1.1.0))
           (and_from (helper_in n p.helper) y (helper_from n p.helper q.0.1.1.1.0)
-          (judged_ok (pile_machine ts p) (machine_at ts k) (length c.args.workspace.now) c.in-ok-verdict.verdict c.in-ok-verdict.ensures.value))),
+          (judged_ok (pile_machine ts p) (machine_at ts k) (length c.args.workspace.now) c.in_ok-verdict.verdict c.in_ok-verdict.ensures.value))),
     )
 
 pub returns : goal.returns
@@ -105,10 +105,10 @@ returns c =
     let ws = c.args.workspace.now in
     let w = length ws in
     let ts = fit_tests H s pile in
-    let v = c.in-ok-verdict.verdict in
-    let q = all_pass ts (contract (seat_at H s)) c.in-ok-c.c c.in-ok-c.ensures in
+    let v = c.in_ok-verdict.verdict in
+    let q = all_pass ts (contract (seat_at H s)) c.in_ok-c.c c.in_ok-c.ensures in
     let j : Ok v ≡ yes_or_refused (judged P Q w) =
-    c.in-ok-verdict.ensures.value ∙ ap (λ (k : ℕ). yes_or_refused (judged P (machine_at H.tables k) w)) q.1 in
+    c.in_ok-verdict.ensures.value ∙ ap (λ (k : ℕ). yes_or_refused (judged P (machine_at H.tables k) w)) q.1 in
     let i : Ok v ≡ fit_result H s pile w = j ∙ sym (skipped ts q.0 Err (yes_or_refused (judged P Q w))) in
     let z = when_taken H (fit s pile w) (means c.put.new.self) (ok_taken Reply.Fitted (fit_result H s pile w) v refl i)
     (c.put.ensures ∙ ap (λ (k : ℕ). with_seat H s (Fitted k pile)) q.1) in

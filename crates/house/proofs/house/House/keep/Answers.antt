@@ -28,20 +28,20 @@ returns-then-self-ge-TABLES c =
     let a : Err Refusal.NoPlace ≡ enter_result H (read_text text) = b ∙ ap (enter_result H) (sym t.1) in
     record { answer = a; house = (when_refused H (enter text) (err_refused Reply.Entered (enter_result H (read_text text)) Refusal.NoPlace a)).0 }
 
-pub overflow-cast-count : goal.overflow-cast-count
-overflow-cast-count c =
+pub overflow_cast-count : goal.overflow_cast-count
+overflow_cast-count c =
     let r = room_ok (length c.args.self.now.moves - c.args.self.now.used) (read_text c.args.checked.now.text.now) c.in-Ok.summary c.in-Ok.ensures.value in
     let l : c.in-Ok.summary.moves ≤ 1024 = omega (arith, r.2) in
     search rules
 
-pub overflow-add-self : goal.overflow-add-self
-overflow-add-self c =
+pub overflow_add-self : goal.overflow_add-self
+overflow_add-self c =
     let r = room_ok (length c.args.self.now.moves - c.args.self.now.used) (read_text c.args.checked.now.text.now) c.in-Ok.summary c.in-Ok.ensures.value in
     let l : c.args.self.now.used + c.in-Ok.summary.moves ≤ 1024 = omega (arith, r.2) in
     search rules
 
-pub invariant-of-self : goal.invariant-of-self
-invariant-of-self c =
+pub invariant_of-self : goal.invariant_of-self
+invariant_of-self c =
     let h = c.args.self.now in
     let rt = read_text c.args.checked.now.text.now in
     let s = c.in-Ok.summary in

@@ -2,6 +2,6 @@ use Rattle.std.proofs.Common.{refl, arith}
 use Rattle.house.specs.Stored.{taken_up}
 use Rattle.house.proofs.house.House.new.Goals as goal
 
-pub invariant-of-result : goal.invariant-of-result
+pub invariant_of-result : goal.invariant_of-result
 unfolding taken_up
-invariant-of-result c = ((refl, refl, refl), ((omega arith, omega arith), ((refl, refl, refl), tt)))
+invariant_of-result c = ((refl, refl, refl), ((omega arith, omega arith), ((refl, refl, refl), tt)))

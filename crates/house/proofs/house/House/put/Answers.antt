@@ -4,8 +4,8 @@ use Rattle.house.specs.Means.{means}
 use Rattle.house.proofs.Everys.{every_set}
 use Rattle.house.proofs.house.House.put.Goals as goal
 
-pub invariant-of-self : goal.invariant-of-self
-invariant-of-self c =
+pub invariant_of-self : goal.invariant_of-self
+invariant_of-self c =
     let h = c.args.self.now in (
       (h.wide.0, h.wide.1, length-set _ _ _ ∙ h.wide.2),
       (h.few, ((h.within.0, every_set (seat_in (means h).tables) h.seats _ _ c.requires.1 h.within.1, h.within.2), tt)),
