@@ -21,8 +21,8 @@ pub struct Listed {
 
 impl Listed {
     // The table of a text in which `|` stands for the line end, unless the text is refused.
-    pub fn read(heap: Global, text: &str) -> Result<Option<Listed>, AllocError> {
-        let text = with_line_ends(heap, text)?;
+    pub fn read(alloc: Global, text: &str) -> Result<Option<Listed>, AllocError> {
+        let text = with_line_ends(alloc, text)?;
         let checked = table::check(text.as_slice());
         let Ok(summary) = checked.found() else {
             return Ok(None);
@@ -32,7 +32,7 @@ impl Listed {
             label: 0,
             to: 0,
         };
-        let mut moves = vec![in heap; none; summary.moves.min(ROOM)]?;
+        let mut moves = vec![in alloc; none; summary.moves.min(ROOM)]?;
         match checked.store(moves.as_mut_slice()) {
             Ok(found) => Ok(Some(Listed {
                 states: found.states,
@@ -57,8 +57,8 @@ impl Listed {
     }
 }
 
-fn with_line_ends(heap: Global, text: &str) -> Result<Vec<u8>, AllocError> {
-    let mut bytes = Vec::with_capacity(heap, text.len())?;
+fn with_line_ends(alloc: Global, text: &str) -> Result<Vec<u8>, AllocError> {
+    let mut bytes = Vec::with_capacity(alloc, text.len())?;
     for byte in text.bytes() {
         bytes.push(if byte == b'|' { b'\n' } else { byte })?;
     }

@@ -4,8 +4,8 @@ ghost use Rattle.std.specs.Prelude.{◌<◌, ◌≤◌, length, IfSome};
 
 use std::alloc::{AllocError, Global};
 
-pub fn decode(heap: Global, line: &[u8]) -> Result<Vec<u8>, AllocError> {
-    let mut text = Vec::with_capacity(heap, line.len())?;
+pub fn decode(alloc: Global, line: &[u8]) -> Result<Vec<u8>, AllocError> {
+    let mut text = Vec::with_capacity(alloc, line.len())?;
     let mut rest = line;
     while let Some((byte, after)) = first(rest) {
         text.push(byte)?;

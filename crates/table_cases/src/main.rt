@@ -12,16 +12,16 @@ use std::io::{BufRead, BufReader, BufWriter, Write};
 const ROOM: usize = 1024;
 
 fn main(rt: HostRuntime) -> io::Result<()> {
-    let heap = rt.alloc();
+    let alloc = rt.alloc();
     let none = Move {
         from: 0,
         label: 0,
         to: 0,
     };
-    let mut moves = vec![in heap; none; ROOM]?;
-    let mut out = BufWriter::new(heap, rt.stdout())?;
-    for line in BufReader::new(heap, rt.stdin())?.split(heap, b'\n') {
-        let text = decode(heap, line?.as_slice())?;
+    let mut moves = vec![in alloc; none; ROOM]?;
+    let mut out = BufWriter::new(alloc, rt.stdout())?;
+    for line in BufReader::new(alloc, rt.stdin())?.split(alloc, b'\n') {
+        let text = decode(alloc, line?.as_slice())?;
         let answer = Answer::to(text.as_slice(), moves.as_mut_slice());
         writeln!(out, "{answer}")?;
     }
