@@ -1,5 +1,5 @@
 -- The call that a line makes.
-use Rattle.std.specs.Prelude.{◌≡◌, ℕ, List, [], ◌∷◌, map, length, Some, None, codes, Option, slice_index_or}
+use Rattle.std.specs.Prelude.{◌≡◌, ℕ, List, [], map, length, Some, None, codes, Option, slice_index_or}
 use Rattle.std.specs.Borrow.{Bor}
 use Rattle.table.specs.Text.{figure_below}
 use Rattle.commands.specs.Names.{word_names}

@@ -1,5 +1,5 @@
 -- A set of names as one word: figures below 32 with commas between them, or - for none.
-use Rattle.std.specs.Prelude.{ℕ, ◌+◌, ◌-◌, ◌*◌, ◌^◌, Bool, true, false, cond, ◌&&◌, ◌||◌, List, [], ◌∷◌, Some, None, Option, ◌==◌, bit_or, nat_lt}
+use Rattle.std.specs.Prelude.{ℕ, ◌+◌, ◌-◌, ◌*◌, ◌^◌, Bool, false, cond, ◌&&◌, List, [], ◌∷◌, Some, None, Option, ◌==◌, bit_or, nat_lt}
 use Rattle.std.specs.Char.{is_ascii_digit}
 use Rattle.commands.specs.declared.names.Part.{Part}
 

@@ -1,13 +1,13 @@
-use Rattle.std.proofs.Common.{◌≡◌, ℕ, ◌+◌, drop, Some, Option, sym, ap, ◌∙◌}
+use Rattle.std.proofs.Common.{ℕ, ◌+◌, drop, Some, Option, sym, ap, ◌∙◌}
 use Rattle.std.proofs.lemmas.List.{at_drop_more, at_drop_all}
 use Rattle.commands.specs.declared.names.Part.{Part}
-use Rattle.commands.specs.Names.{names_on, end_by, with_name}
+use Rattle.commands.specs.Names.{names_on, end_by}
 use Rattle.commands.proofs.names.list_names.Goals as goal
 
-pub returns-in-default : goal.returns-in-default
-returns-in-default c =
+pub returns-in_default : goal.returns-in_default
+returns-in_default c =
     let e = at_drop_more (names_on (Some c.loop-byte.part)) c.args.word.now c.loop-byte.byte-index 0 c.loop-byte-test.true in
-    ap (λ (o : Option Part). names_on o (drop (c.loop-byte.byte-index + 1) c.args.word.now)) c.in-default.ensures.value ∙ sym e ∙ c.loop-byte.invariant.0
+    ap (λ (o : Option Part). names_on o (drop (c.loop-byte.byte-index + 1) c.args.word.now)) c.in_default.ensures.value ∙ sym e ∙ c.loop-byte.invariant.0
 
 pub loop-byte-preserved : goal.loop-byte-preserved
 loop-byte-preserved c =

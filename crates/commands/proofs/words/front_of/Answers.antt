@@ -1,4 +1,4 @@
-use Rattle.std.proofs.Common.{◌≡◌, ℕ, List, [], ◌∷◌, length, sym, subst, append-nil, arith, length-set}
+use Rattle.std.proofs.Common.{ℕ, List, [], ◌∷◌, sym, subst, append-nil, arith, length-set}
 use Rattle.commands.specs.Words.{Words}
 use Rattle.commands.proofs.Fronts.{front_more}
 use Rattle.commands.proofs.words.front_of.Goals as goal
@@ -12,8 +12,8 @@ loop-many-preserved c = (
       (c.loop-many.invariant.2 (c.in-Some.word.now ∷ ws) (_, c.in-Some.ensures.steps, h)),
 )
 
-pub returns-in-default : goal.returns-in-default
-returns-in-default c = record {
+pub returns-in_default : goal.returns-in_default
+returns-in_default c = record {
   few = omega arith;
-  words = λ _. subst (λ (r : List (List ℕ)). Words c.args.line.now r) (append-nil _) (c.loop-many.invariant.2 [] c.in-default.ensures.steps.1);
+  words = λ _. subst (λ (r : List (List ℕ)). Words c.args.line.now r) (append-nil _) (c.loop-many.invariant.2 [] c.in_default.ensures.steps.1);
 }
