@@ -68,7 +68,7 @@ impl Moves {
 impl Told {
     // Asks every state and one beyond the last.
     pub fn by<S: Source>(
-        heap: Global,
+        alloc: Global,
         source: &S,
         names: NameSet,
         room: u16,
@@ -83,12 +83,12 @@ impl Told {
         } else {
             size
         };
-        let mut sheet = vec![in heap; UNTOUCHED; room as usize]?;
+        let mut sheet = vec![in alloc; UNTOUCHED; room as usize]?;
         let stuck = search(source, names, sheet.as_mut_slice());
         Ok(Told {
             size,
             start: source.start(),
-            states: states_of(heap, source, last)?,
+            states: states_of(alloc, source, last)?,
             moves: moves_of(source, last),
             stuck,
             sheet,
@@ -96,8 +96,8 @@ impl Told {
     }
 }
 
-fn states_of<S: Source>(heap: Global, source: &S, last: u16) -> Result<Vec<State>, AllocError> {
-    let mut states = Vec::new(heap);
+fn states_of<S: Source>(alloc: Global, source: &S, last: u16) -> Result<Vec<State>, AllocError> {
+    let mut states = Vec::new(alloc);
     for p in 0..last as usize + 1 {
         states.push(State {
             initials: source.initials(p),

@@ -9,65 +9,65 @@ use listed::Listed;
 use source::source::Source;
 use std::alloc::{AllocError, Global};
 
-pub fn answer_to(heap: Global, line: &[u8]) -> Result<Answer, AllocError> {
+pub fn answer_to(alloc: Global, line: &[u8]) -> Result<Answer, AllocError> {
     let Some(case) = Case::parse(line) else {
         return Ok(Answer::Unclear);
     };
     match case.shape {
-        Shape::Single(shape) => over_one(heap, &case, shape),
-        Shape::Double(shape) => over_two(heap, &case, shape),
-        Shape::Triple(shape) => over_three(heap, &case, shape),
+        Shape::Single(shape) => over_one(alloc, &case, shape),
+        Shape::Double(shape) => over_two(alloc, &case, shape),
+        Shape::Triple(shape) => over_three(alloc, &case, shape),
     }
 }
 
-fn over_one(heap: Global, case: &Case<'_>, shape: Single) -> Result<Answer, AllocError> {
-    let Some(first) = Listed::read(heap, case.texts[0])? else {
+fn over_one(alloc: Global, case: &Case<'_>, shape: Single) -> Result<Answer, AllocError> {
+    let Some(first) = Listed::read(alloc, case.texts[0])? else {
         return Ok(Answer::Unread);
     };
     let table = first.table();
     match shape {
-        Single::Plain => answer(heap, case, &table),
-        Single::Hidden => answer(heap, case, &hidden(case, table)),
-        Single::Renamed => renamed(heap, case, table),
-        Single::Twice => answer(heap, case, &beside(&table, &table)),
+        Single::Plain => answer(alloc, case, &table),
+        Single::Hidden => answer(alloc, case, &hidden(case, table)),
+        Single::Renamed => renamed(alloc, case, table),
+        Single::Twice => answer(alloc, case, &beside(&table, &table)),
     }
 }
 
-fn over_two(heap: Global, case: &Case<'_>, shape: Double) -> Result<Answer, AllocError> {
-    let Some(first) = Listed::read(heap, case.texts[0])? else {
+fn over_two(alloc: Global, case: &Case<'_>, shape: Double) -> Result<Answer, AllocError> {
+    let Some(first) = Listed::read(alloc, case.texts[0])? else {
         return Ok(Answer::Unread);
     };
-    let Some(second) = Listed::read(heap, case.texts[1])? else {
+    let Some(second) = Listed::read(alloc, case.texts[1])? else {
         return Ok(Answer::Unread);
     };
     let left = first.table();
     let right = second.table();
     match shape {
-        Double::Pair => answer(heap, case, &beside(left, right)),
-        Double::HiddenPair => answer(heap, case, &hidden(case, beside(left, right))),
-        Double::RenamedHiddenPair => renamed(heap, case, hidden(case, beside(left, right))),
-        Double::HiddenByRenamed => hidden_by_renamed(heap, case, left, right),
+        Double::Pair => answer(alloc, case, &beside(left, right)),
+        Double::HiddenPair => answer(alloc, case, &hidden(case, beside(left, right))),
+        Double::RenamedHiddenPair => renamed(alloc, case, hidden(case, beside(left, right))),
+        Double::HiddenByRenamed => hidden_by_renamed(alloc, case, left, right),
     }
 }
 
-fn over_three(heap: Global, case: &Case<'_>, shape: Triple) -> Result<Answer, AllocError> {
-    let Some(first) = Listed::read(heap, case.texts[0])? else {
+fn over_three(alloc: Global, case: &Case<'_>, shape: Triple) -> Result<Answer, AllocError> {
+    let Some(first) = Listed::read(alloc, case.texts[0])? else {
         return Ok(Answer::Unread);
     };
-    let Some(second) = Listed::read(heap, case.texts[1])? else {
+    let Some(second) = Listed::read(alloc, case.texts[1])? else {
         return Ok(Answer::Unread);
     };
-    let Some(third) = Listed::read(heap, case.texts[2])? else {
+    let Some(third) = Listed::read(alloc, case.texts[2])? else {
         return Ok(Answer::Unread);
     };
     match shape {
         Triple::PairFirst => {
             let pair = beside(first.table(), second.table());
-            answer(heap, case, &beside(pair, third.table()))
+            answer(alloc, case, &beside(pair, third.table()))
         }
         Triple::HiddenPairLast => {
             let pair = hidden(case, beside(second.table(), third.table()));
-            answer(heap, case, &hidden(case, beside(first.table(), pair)))
+            answer(alloc, case, &hidden(case, beside(first.table(), pair)))
         }
     }
 }
@@ -84,29 +84,29 @@ fn beside<L, R>(left: L, right: R) -> Parallel<L, R> {
 }
 
 fn renamed<S: Source + Drop>(
-    heap: Global,
+    alloc: Global,
     case: &Case<'_>,
     inner: S,
 ) -> Result<Answer, AllocError> {
     match Relabel::new(case.map, inner) {
-        Ok(pile) => answer(heap, case, &pile),
+        Ok(pile) => answer(alloc, case, &pile),
         Err(bad) => Ok(Answer::Refused(bad.number())),
     }
 }
 
 fn hidden_by_renamed<L: Source + Drop, R: Source + Drop>(
-    heap: Global,
+    alloc: Global,
     case: &Case<'_>,
     left: L,
     right: R,
 ) -> Result<Answer, AllocError> {
     match Relabel::new(case.map, right) {
-        Ok(right) => answer(heap, case, &beside(hidden(case, left), right)),
+        Ok(right) => answer(alloc, case, &beside(hidden(case, left), right)),
         Err(bad) => Ok(Answer::Refused(bad.number())),
     }
 }
 
-fn answer<S: Source>(heap: Global, case: &Case<'_>, source: &S) -> Result<Answer, AllocError> {
-    let told = Told::by(heap, source, case.names, case.sheet)?;
+fn answer<S: Source>(alloc: Global, case: &Case<'_>, source: &S) -> Result<Answer, AllocError> {
+    let told = Told::by(alloc, source, case.names, case.sheet)?;
     Ok(Answer::Told(told))
 }
