@@ -6,7 +6,7 @@ use Rattle.calls.specs.declared.refusal.Refusal.{Refusal}
 use Rattle.calls.specs.declared.request.Reply.{Reply}
 use Rattle.calls.specs.Contents.{Contents}
 use Rattle.calls.specs.Calls.{Call, Test, unless_failed, replied, is_refused, refuses_call, changed, after}
-use Rattle.calls.specs.Histories.{Leaves, refused, taken, Goes_on}
+use Rattle.calls.specs.Histories.{Leaves, refused, taken, GoesOn}
 
 pub passed : {A : Type 0} (f : A → Reply) (x : Result A Refusal) (ts : List Test) →
     is_refused (replied f (unless_failed ts Err x)) ≡ false → All (λ t. t.fails ≡ false) ts × (is_refused (replied f x) ≡ false)
@@ -48,17 +48,17 @@ stopped {A} {B} (t ∷ ts) x e i f y = go t.fails i (λ k. stopped ts x e k f y)
     go true i later = let k : t.with_this ≡ e = cc in ap f k
     go false i later = later i
 
-pub goes_on : (H : Contents) (c : Call) (K : Contents) → K ≡ after H c → Goes_on H c K
+pub goes_on : (H : Contents) (c : Call) (K : Contents) → K ≡ after H c → GoesOn H c K
 goes_on H c K k past l = ⊎_elim
     (λ (e : refuses_call H c ≡ true). subst (λ (M : Contents). Leaves (c ∷ past) M) (sym (k ∙ cond-true (refuses_call H c) H (changed H c) e)) (refused c l e))
     (λ (e : refuses_call H c ≡ false). subst (λ (M : Contents). Leaves (c ∷ past) M) (sym (k ∙ cond-false (refuses_call H c) H (changed H c) e)) (taken c l e))
     (cases_Bool (refuses_call H c))
 
 -- a call that is refused leaves the house, and one that is taken changes it
-pub when_refused : (H : Contents) (c : Call) → refuses_call H c ≡ true → (H ≡ after H c) × Goes_on H c H
+pub when_refused : (H : Contents) (c : Call) → refuses_call H c ≡ true → (H ≡ after H c) × GoesOn H c H
 when_refused H c e = let k = sym (cond-true (refuses_call H c) H (changed H c) e) in (k, goes_on H c H k)
 
-pub when_taken : (H : Contents) (c : Call) (K : Contents) → refuses_call H c ≡ false → K ≡ changed H c → (K ≡ after H c) × Goes_on H c K
+pub when_taken : (H : Contents) (c : Call) (K : Contents) → refuses_call H c ≡ false → K ≡ changed H c → (K ≡ after H c) × GoesOn H c K
 when_taken H c K e f = let k = f ∙ sym (cond-false (refuses_call H c) H (changed H c) e) in (k, goes_on H c K k)
 
 -- an answer that is no refusal, and one that is

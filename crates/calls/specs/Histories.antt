@@ -68,5 +68,5 @@ pub data Leaves : List Call → Contents → Type 0 where
   taken : {past : List Call} {H : Contents} (c : Call) → Leaves past H → refuses_call H c ≡ false → Leaves (c ∷ past) (changed H c)
 
 -- a call takes a house that is left by a list of calls to the one that is left by that list and this call
-abbrev pub Goes_on : Contents → Call → Contents → Type 0
-Goes_on H c K = (past : List Call) → Leaves past H → Leaves (c ∷ past) K
+abbrev pub GoesOn : Contents → Call → Contents → Type 0
+GoesOn H c K = (past : List Call) → Leaves past H → Leaves (c ∷ past) K

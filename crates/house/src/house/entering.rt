@@ -1,7 +1,7 @@
 ghost use Rattle.std.specs.Prelude.{◌≡◌, ◌-◌, ◌≤◌, true, ◌++◌, length, take, drop, is_ok};
 ghost use Rattle.table.specs.Table.{read_text, summary_of, moves_of, in_room, stored_in};
 ghost use Rattle.calls.specs.Calls.{enter, enter_result, after};
-ghost use Rattle.calls.specs.Histories.{Goes_on};
+ghost use Rattle.calls.specs.Histories.{GoesOn};
 ghost use Rattle.house.specs.Means.{means};
 
 use crate::house::{Entry, House, TABLES};
@@ -50,7 +50,7 @@ impl House {
     pub fn enter(&mut self, text: &[u8]) -> Result<u8, Refusal>
         ensures answer { result ≡ enter_result (means self.old) (read_text text.now) }
         ensures house { means self.new ≡ after (means self.old) (enter text.now) }
-        ensures history { Goes_on (means self.old) (enter text.now) (means self.new) }
+        ensures history { GoesOn (means self.old) (enter text.now) (means self.new) }
     {
         let checked = table::check(text);
         match checked.found() {

@@ -4,7 +4,7 @@ ghost use Rattle.ranks.specs.Filled.{workspace_after};
 ghost use Rattle.judge.specs.Verdicts.{judged};
 ghost use Rattle.calls.specs.Contents.{machine_at, pile_machine};
 ghost use Rattle.calls.specs.Calls.{fit, fit_result, fit_workspace, lacks_helper, yes_or_refused, after, RefusedExactly};
-ghost use Rattle.calls.specs.Histories.{Goes_on};
+ghost use Rattle.calls.specs.Histories.{GoesOn};
 ghost use Rattle.house.specs.Means.{means};
 
 use crate::house::House;
@@ -70,7 +70,7 @@ impl House {
         ensures house { means self.new ≡ after (means self.old) (fit s pile (length workspace.old)) }
         ensures workspace { workspace.new ≡ fit_workspace (means self.old) s pile workspace.old }
         ensures exactly { RefusedExactly (means self.old) s pile (length workspace.old) result }
-        ensures history { Goes_on (means self.old) (fit s pile (length workspace.old)) (means self.new) }
+        ensures history { GoesOn (means self.old) (fit s pile (length workspace.old)) (means self.new) }
     {
         let c = self.may_fit(s, pile)?;
         let verdict = self.judge_pile(pile, c, workspace)?;

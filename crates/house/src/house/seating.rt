@@ -1,6 +1,6 @@
 ghost use Rattle.std.specs.Prelude.{◌≡◌};
 ghost use Rattle.calls.specs.Calls.{seat, unfit, clear, seat_result, unfit_result, clear_result, after};
-ghost use Rattle.calls.specs.Histories.{Goes_on};
+ghost use Rattle.calls.specs.Histories.{GoesOn};
 ghost use Rattle.house.specs.Means.{means};
 
 use crate::house::House;
@@ -11,7 +11,7 @@ impl House {
     pub fn seat(&mut self, s: u8, c: u8) -> Result<(), Refusal>
         ensures answer { result ≡ seat_result (means self.old) s c }
         ensures house { means self.new ≡ after (means self.old) (seat s c) }
-        ensures history { Goes_on (means self.old) (seat s c) (means self.new) }
+        ensures history { GoesOn (means self.old) (seat s c) (means self.new) }
     {
         self.may_seat(s, c)?;
         self.put(s, Seat::Contract(c));
@@ -22,7 +22,7 @@ impl House {
     pub fn unfit(&mut self, s: u8) -> Result<(), Refusal>
         ensures answer { result ≡ unfit_result (means self.old) s }
         ensures house { means self.new ≡ after (means self.old) (unfit s) }
-        ensures history { Goes_on (means self.old) (unfit s) (means self.new) }
+        ensures history { GoesOn (means self.old) (unfit s) (means self.new) }
     {
         let c = self.may_unfit(s)?;
         self.put(s, Seat::Contract(c));
@@ -33,7 +33,7 @@ impl House {
     pub fn clear(&mut self, s: u8) -> Result<(), Refusal>
         ensures answer { result ≡ clear_result (means self.old) s }
         ensures house { means self.new ≡ after (means self.old) (clear s) }
-        ensures history { Goes_on (means self.old) (clear s) (means self.new) }
+        ensures history { GoesOn (means self.old) (clear s) (means self.new) }
     {
         self.may_clear(s)?;
         self.put(s, Seat::Empty);

@@ -46,28 +46,26 @@ invariant_of-self c =
     let rt = read_text c.args.checked.now.text.now in
     let s = c.in-Ok.summary in
     let r = room_ok (length h.moves - h.used) rt s c.in-Ok.ensures.value in
-    let l : h.used + s.moves ≤ 1024 = omega (arith, r.2) in (
-      (omega arith, length-set _ _ _ ∙ h.wide.1, h.wide.2),
-      ((l, omega arith), (within_after h c.store_behind.new.moves (moves_of rt) s r.1 c.if-self-ge-TABLES.false c.in-Ok.ensures.stored, tt)),
-    )
+    let l : h.used + s.moves ≤ 1024 = omega (arith, r.2) in
+    record {
+      wide = (omega arith, length-set _ _ _ ∙ h.wide.1, h.wide.2);
+      few = (l, omega arith);
+      within = within_after h c.store_behind.new.moves (moves_of rt) s r.1 c.if-self-ge-TABLES.false c.in-Ok.ensures.stored;
+    }
 
-pub invariant-of-self-in-Err· : goal.invariant-of-self-in-Err·
-invariant-of-self-in-Err· c =
+pub invariant_of-self-in-Err-1 : goal.invariant_of-self-in-Err-1
+invariant_of-self-in-Err-1 c =
     let h = c.args.self.now in
-    let e : c.store_behind.new.moves ≡ h.moves = c.in-Err.ensures.stored ∙ take-append-drop h.used h.moves in (
-      (omega arith, h.wide.1, h.wide.2),
-      (
-        h.few,
-        (
-          (
-            h.within.0,
-            subst (λ (ms : List Move). every (seat_in (listings ms h.entries h.count)) h.seats ≡ true) (sym e) h.within.1,
-            h.within.2,
-          ),
-          tt,
-        ),
-      ),
-    )
+    let e : c.store_behind.new.moves ≡ h.moves = c.in-Err.ensures.stored ∙ take-append-drop h.used h.moves in
+    record {
+      wide = (omega arith, h.wide.1, h.wide.2);
+      few = h.few;
+      within = (
+        h.within.0,
+        subst (λ (ms : List Move). every (seat_in (listings ms h.entries h.count)) h.seats ≡ true) (sym e) h.within.1,
+        h.within.2,
+      );
+    }
 
 pub returns-in-Ok : goal.returns-in-Ok
 returns-in-Ok c =

@@ -4,4 +4,4 @@ use Rattle.house.proofs.house.House.new.Goals as goal
 
 pub invariant_of-result : goal.invariant_of-result
 unfolding taken_up
-invariant_of-result c = ((refl, refl, refl), ((omega arith, omega arith), ((refl, refl, refl), tt)))
+invariant_of-result c = record { wide = (refl, refl, refl); few = (omega arith, omega arith); within = (refl, refl, refl) }
