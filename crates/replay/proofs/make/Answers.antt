@@ -9,8 +9,8 @@ use Rattle.house.specs.Means.{means}
 use Rattle.replay.proofs.Rooms.{front, same_fit}
 use Rattle.replay.proofs.make.Goals as goal
 
-pub returns-then-room-lt-MOST-ROOM : goal.returns-then-room-lt-MOST-ROOM
-returns-then-room-lt-MOST-ROOM c =
+pub returns-then-room-lt-MOST_ROOM : goal.returns-then-room-lt-MOST_ROOM
+returns-then-room-lt-MOST_ROOM c =
     let H = means c.args.house.now in
     let i = c.in-Fit in
     let l : i.room ≤ length c.args.workspace.now = omega arith in
@@ -21,12 +21,12 @@ returns-then-room-lt-MOST-ROOM c =
       left = c.fit.ensures.house ∙ ap (λ (w : ℕ). after H (fit i.s i.pile w)) e ∙ ap (λ (x : Request). after H (call_of x)) (sym i.is);
     }
 
-pub returns-else-room-lt-MOST-ROOM : goal.returns-else-room-lt-MOST-ROOM
-returns-else-room-lt-MOST-ROOM c =
+pub returns-else-room-lt-MOST_ROOM : goal.returns-else-room-lt-MOST_ROOM
+returns-else-room-lt-MOST_ROOM c =
     let H = means c.args.house.now in
     let i = c.in-Fit in
     let l : 260100 ≤ length c.args.workspace.now = omega arith in
-    let e = same_fit H i.s i.pile (length c.args.workspace.now) i.room l c.if-room-lt-MOST-ROOM.false in
+    let e = same_fit H i.s i.pile (length c.args.workspace.now) i.room l c.if-room-lt-MOST_ROOM.false in
     record {
       answer = c.fitted-in-Fit.ensures ∙ ap (replied Reply.Fitted) (c.fit-in-Fit.ensures.answer ∙ e) ∙ ap (λ (x : Request). reply H (call_of x)) (sym i.is);
       left = c.fit-in-Fit.ensures.house
