@@ -4,8 +4,8 @@ ghost use Rattle.std.specs.Prelude.{◌≡◌, ℕ, ◌+◌, ◌*◌, ◌<◌, �
 ghost use Rattle.lts.specs.Machines.{Machine};
 ghost use Rattle.dense.specs.Copies.{meaning};
 ghost use Rattle.clauses.specs.Ranks.{reads, rank_at, stood_by};
-ghost use Rattle.clauses.specs.Candidates.{first_by};
-ghost use Rattle.clauses.specs.Workspaces.{first_in};
+ghost use Rattle.clauses.specs.Candidates.{first_by, first_failing};
+ghost use Rattle.clauses.specs.Workspaces.{Prepared, stood_in, first_in};
 
 use crate::counterexample::Counterexample;
 use crate::moves::failing_move;
@@ -57,7 +57,7 @@ fn scan<P: Source>(
 
 /// The first candidate of the pair that fails against the pairs that stood before the round, by the closures and the ranks that
 /// a workspace holds; `None` also where the workspace has no room for them, or there is no such pair.
-pub fn first_failing<P: Source>(
+pub fn first_failing_copied<P: Source>(
     module: &P,
     contract: &Dense,
     workspace: &[u8],
@@ -73,4 +73,21 @@ pub fn first_failing<P: Source>(
         return None;
     }
     scan(module, n, contract, m, workspace, round, p, q)
+}
+
+/// The same of a contract that is not copied yet.
+pub fn first_failing<P: Source, Q: Source>(
+    module: &P,
+    contract: &Q,
+    workspace: &[u8],
+    round: u16,
+    p: usize,
+    q: usize,
+) -> Option<Counterexample>
+    ensures value { result ≡ first_in (P.Source.means «module».now) (Q.Source.means contract.now) workspace.now round p q }
+    ensures first { Prepared (P.Source.means «module».now) (Q.Source.means contract.now) workspace.now → p < (P.Source.means «module».now).size → q < (Q.Source.means contract.now).size → result ≡ first_failing (P.Source.means «module».now) (Q.Source.means contract.now) (stood_in (P.Source.means «module».now) (Q.Source.means contract.now) round workspace.now) p q }
+{
+    let mut copy = Dense::none();
+    copy.copy(contract);
+    first_failing_copied(module, &copy, workspace, round, p, q)
 }

@@ -11,10 +11,10 @@ ghost use Rattle.judge.specs.Verdicts.{zeros_below, Holding, answer, verdict, ju
 use crate::verdict::{Answer, Verdict};
 use clauses::counterexample::Counterexample;
 use clauses::ranks::rank;
-use clauses::scan::first_failing;
+use clauses::scan::first_failing_copied;
 use dense::machine::Dense;
 use lts::machines::Relation;
-use ranks::filling::fill_workspace;
+use ranks::filling::fill_copied;
 use source::refusal::Refusal;
 use source::source::Source;
 
@@ -45,7 +45,7 @@ fn read_answer(module: &Dense, contract: &Dense, n: usize, m: usize, workspace: 
     if round == 0 {
         return Answer::Yes;
     }
-    match first_failing(module, contract, workspace, round, p, q) {
+    match first_failing_copied(module, contract, workspace, round, p, q) {
         Some(counterexample) => Answer::No {
             round,
             counterexample,
@@ -87,7 +87,7 @@ pub fn judge<R: Relation, P: Source, Q: Source>(
     actual.copy(module);
     let mut promised = Dense::none();
     promised.copy(contract);
-    match fill_workspace(&actual, &promised, workspace) {
+    match fill_copied(&actual, &promised, workspace) {
         Ok(highest) => Ok(read_verdict(&actual, &promised, workspace, highest)),
         Err(refusal) => Err(refusal),
     }

@@ -45,11 +45,7 @@ fn fill(module: &Dense, contract: &Dense, n: usize, m: usize, workspace: &mut [u
 
 /// Fills the workspace with both closures and the ranks, and answers the last round that struck a pair.
 /// A source that is too large is refused first, then a workspace that is too short; a refusal leaves it.
-pub fn fill_workspace(
-    module: &Dense,
-    contract: &Dense,
-    workspace: &mut [u8],
-) -> Result<u16, Refusal>
+pub fn fill_copied(module: &Dense, contract: &Dense, workspace: &mut [u8]) -> Result<u16, Refusal>
     ensures value { result ≡ filled (meaning «module».now) (meaning contract.now) (length workspace.old) }
     ensures workspace { workspace.new ≡ workspace_after (meaning «module».now) (meaning contract.now) workspace.old }
 {
@@ -62,4 +58,20 @@ pub fn fill_workspace(
         return Err(Refusal::TooShort);
     }
     Ok(fill(module, contract, n, m, workspace))
+}
+
+/// The same of sources that are not copied yet.
+pub fn fill_workspace<P: Source, Q: Source>(
+    module: &P,
+    contract: &Q,
+    workspace: &mut [u8],
+) -> Result<u16, Refusal>
+    ensures value { result ≡ filled (P.Source.means «module».now) (Q.Source.means contract.now) (length workspace.old) }
+    ensures workspace { workspace.new ≡ workspace_after (P.Source.means «module».now) (Q.Source.means contract.now) workspace.old }
+{
+    let mut actual = Dense::none();
+    actual.copy(module);
+    let mut promised = Dense::none();
+    promised.copy(contract);
+    fill_copied(&actual, &promised, workspace)
 }

@@ -24,9 +24,9 @@ read_verdict-requires g c =
     let M = meaning c.copy.new.self in
     let N = meaning c.copy-2.new.self in
     let was = c.args.workspace.now in
-    let a = accepted M N (length was) (last_round M N) c.in-Ok.highest (sym c.in-Ok.is ∙ c.fill_workspace.ensures.value) in
+    let a = accepted M N (length was) (last_round M N) c.in-Ok.highest (sym c.in-Ok.is ∙ c.fill_copied.ensures.value) in
     record {
-      holding = subst (Holding M N) (sym (c.fill_workspace.ensures.workspace ∙ after_whole M N a.some a.more was a.enough)) (whole_held M N was a.some a.more);
+      holding = subst (Holding M N) (sym (c.fill_copied.ensures.workspace ∙ after_whole M N a.some a.more was a.enough)) (whole_held M N was a.some a.more);
       last = a.value;
     }
 
@@ -39,10 +39,10 @@ returns-in-Ok g c =
     let s = g.P.Source.sound c.args.module.now in
     let u = g.Q.Source.sound c.args.contract.now in
     let was = c.args.workspace.now in
-    let a = accepted A B (length was) (last_round A B) c.in-Ok.highest (sym c.in-Ok.is ∙ c.fill_workspace.ensures.value) in
+    let a = accepted A B (length was) (last_round A B) c.in-Ok.highest (sym c.in-Ok.is ∙ c.fill_copied.ensures.value) in
     record {
       value = value_of A B M N (length was) _ c.copy.ensures c.copy-2.ensures (ap (λ (v : Verdict). Ok v) c.read_verdict.ensures ∙ sym (accepts A B a.some a.more (length was) (verdict A B) a.enough));
-      workspace = workspace_of A B M N was _ c.copy.ensures c.copy-2.ensures c.fill_workspace.ensures.workspace;
+      workspace = workspace_of A B M N was _ c.copy.ensures c.copy-2.ensures c.fill_copied.ensures.workspace;
       largest_relation = λ f h. largest_relation M N s u f h g.R.Relation.holds;
       context_keeps_yes = context_keeps_yes M N (length was) s u;
       counterexample_fails = counterexample_fails M N s u;
@@ -58,8 +58,8 @@ returns-in-Err g c =
     let u = g.Q.Source.sound c.args.contract.now in
     let was = c.args.workspace.now in
     record {
-      value = value_of A B M N (length was) _ c.copy.ensures c.copy-2.ensures (refused_same A B (length was) (last_round A B) (verdict A B) c.in-Err.refusal (sym c.in-Err.is ∙ c.fill_workspace.ensures.value));
-      workspace = workspace_of A B M N was _ c.copy.ensures c.copy-2.ensures c.fill_workspace.ensures.workspace;
+      value = value_of A B M N (length was) _ c.copy.ensures c.copy-2.ensures (refused_same A B (length was) (last_round A B) (verdict A B) c.in-Err.refusal (sym c.in-Err.is ∙ c.fill_copied.ensures.value));
+      workspace = workspace_of A B M N was _ c.copy.ensures c.copy-2.ensures c.fill_copied.ensures.workspace;
       largest_relation = λ f h. largest_relation M N s u f h g.R.Relation.holds;
       context_keeps_yes = context_keeps_yes M N (length was) s u;
       counterexample_fails = counterexample_fails M N s u;

@@ -52,7 +52,7 @@ unreachable-requires c =
     let a : p.result < M.size = (let z = start_in M s h.some in omega (arith, p.ensures)) in
     let b : q.result < N.size = (let z = start_in N u h.more in omega (arith, q.ensures)) in
     absurd (never_none M N s u w h c.args.n c.args.m c.requires.states c.requires.others k e
-    (sym c.in-None.is ∙ at_starts M N w r k p.result q.result c.first_failing.result er p.ensures q.ensures (c.first_failing.ensures ∙ found_failing M N w r p.result q.result h.ready a b)))
+    (sym c.in-None.is ∙ at_starts M N w r k p.result q.result c.first_failing_copied.result er p.ensures q.ensures (c.first_failing_copied.ensures ∙ found_failing M N w r p.result q.result h.ready a b)))
 
 pub returns : goal.returns
 returns c =
@@ -74,4 +74,4 @@ returns c =
     let b : q.result < N.size = (let z = start_in N u h.more in omega (arith, q.ensures)) in
     ap (λ (x : ℕ). No x c.in-Some.counterexample) er
     ∙ answer_no M N s u w h c.args.n c.args.m c.requires.states c.requires.others k e c.in-Some.counterexample
-    (sym c.in-Some.is ∙ at_starts M N w r k p.result q.result c.first_failing.result er p.ensures q.ensures (c.first_failing.ensures ∙ found_failing M N w r p.result q.result h.ready a b))
+    (sym c.in-Some.is ∙ at_starts M N w r k p.result q.result c.first_failing_copied.result er p.ensures q.ensures (c.first_failing_copied.ensures ∙ found_failing M N w r p.result q.result h.ready a b))
