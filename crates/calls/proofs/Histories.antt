@@ -1,5 +1,5 @@
 -- What a list of calls leaves is what its history says.
-use Rattle.std.proofs.Common.{◌≡◌, ℕ, zero, suc, ◌≤◌, Bool, true, false, cond, not, eqb, ltb, List, [], ◌∷◌, get_or, set, Some, None, Ok, Option, sym, refl, ap, ◌∙◌, subst, arith}
+use Rattle.std.proofs.Common.{◌≡◌, ℕ, zero, suc, ◌≤◌, Bool, true, false, cond, eqb, List, ◌∷◌, get_or, set, Some, None, Ok, Option, sym, refl, ap, ◌∙◌, subst, arith}
 use Rattle.std.proofs.lemmas.Bool.{true≢false, not-false, ltb-false, eqb-true, cond-true, cond-false}
 use Rattle.table.specs.Table.{Listing}
 use Rattle.judge.specs.Verdicts.{judged}

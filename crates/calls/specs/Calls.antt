@@ -11,7 +11,6 @@ use Rattle.judge.specs.declared.verdict.Answer.TheVariants.{Yes, No}
 use Rattle.judge.specs.declared.verdict.Verdict.{Verdict}
 use Rattle.judge.specs.Verdicts.{judged}
 use Rattle.calls.specs.declared.seat.Pile.{Pile}
-use Rattle.calls.specs.declared.seat.Seat.{Seat}
 use Rattle.calls.specs.declared.seat.Seat.TheVariants.{Empty, Contract, Fitted}
 use Rattle.calls.specs.declared.refusal.Refusal.{Refusal}
 use Rattle.calls.specs.declared.request.Reply.{Reply}

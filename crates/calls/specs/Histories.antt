@@ -1,5 +1,5 @@
 -- A house by its history: the calls that were made, the last one first, and of these the calls that were taken.
-use Rattle.std.specs.Prelude.{◌≡◌, ℕ, Bool, true, false, cond, List, [], ◌∷◌, Some, None, Option, ◌==◌}
+use Rattle.std.specs.Prelude.{◌≡◌, ℕ, true, false, cond, List, [], ◌∷◌, Some, None, Option, ◌==◌}
 use Rattle.table.specs.Table.{Listing, read_text}
 use Rattle.calls.specs.declared.seat.Pile.{Pile}
 use Rattle.calls.specs.declared.seat.Seat.{Seat}

@@ -1,8 +1,7 @@
 -- What fails depends on what is inside the two machines alone.
-use Rattle.std.proofs.Common.{◌≡◌, ℕ, ◌<◌, Bool, true, false, cond, not, ◌&&◌, ltb, Some, None, Option, sym, refl, ap, ◌∙◌, subst}
+use Rattle.std.proofs.Common.{◌≡◌, ℕ, ◌<◌, Bool, cond, not, ◌&&◌, ltb, Some, None, Option, ap, ◌∙◌}
 use Rattle.lts.specs.Machines.{Machine, some_below, implies, stable, initial}
 use Rattle.lts.specs.Conformance.{covers}
-use Rattle.clauses.specs.declared.counterexample.Counterexample.{Counterexample}
 use Rattle.clauses.specs.Candidates.{
   or_else,
   when,

@@ -1,8 +1,8 @@
 -- The first of the numbers in order at which something is found.
-use Rattle.std.proofs.Common.{◌≡◌, ℕ, zero, suc, ◌+◌, ◌<◌, ◌≤◌, Bool, true, false, cond, not, ◌&&◌, eqb, ◌⊎◌, is_some, Some, None, Option, sym, refl, ap, ◌∙◌, subst, inl, inr, ⊎_elim, arith}
+use Rattle.std.proofs.Common.{◌≡◌, ℕ, zero, suc, ◌+◌, ◌<◌, ◌≤◌, true, false, not, eqb, ◌⊎◌, is_some, Some, None, Option, sym, refl, ap, ◌∙◌, subst, inl, inr, ⊎_elim, arith}
 use Rattle.std.proofs.lemmas.Bool.{cases_eq, and_cases, both_ways, ne_eqb, true≢false, false≢true}
 use Rattle.lts.specs.Labels.{member}
-use Rattle.labels.specs.Sets.{Lowest, Taken}
+use Rattle.labels.specs.Sets.{Taken}
 use Rattle.labels.proofs.Bits.{member_none}
 use Rattle.clauses.specs.Candidates.{or_else, first_some}
 

@@ -1,9 +1,9 @@
 -- A pair passes both clauses exactly when no candidate of it fails.
-use Rattle.std.proofs.Common.{◌≡◌, ℕ, ◌<◌, ◌≤◌, Bool, true, false, cond, not, ◌&&◌, ltb, ◌⊎◌, is_some, Some, None, Option, sym, refl, ap, ◌∙◌, subst, inl, inr, ⊎_elim, arith}
-use Rattle.std.proofs.lemmas.Bool.{both_ways, cases_Bool, cases_lt, and_parts, and_from, and_left, and_right, cond-true, cond-false, true≢false, not-true, not_from_true, not_from_false, lt-ltb}
-use Rattle.lts.specs.Machines.{Machine, some_below, each_below, implies, tau_reaches, weak_step, stable, initial}
+use Rattle.std.proofs.Common.{◌≡◌, ℕ, ◌<◌, ◌≤◌, Bool, true, false, not, ◌&&◌, ltb, is_some, Some, None, Option, sym, refl, ap, ◌∙◌, subst, ⊎_elim, arith}
+use Rattle.std.proofs.lemmas.Bool.{both_ways, cases_Bool, cases_lt, and_parts, and_from, and_left, and_right, cond-true, cond-false, true≢false, not_from_true}
+use Rattle.lts.specs.Machines.{Machine, some_below, implies, tau_reaches, weak_step, stable, initial}
 use Rattle.lts.specs.Conformance.{covers, passes, passes_moves, passes_refusals}
-use Rattle.lts.specs.Some.{same, some_out}
+use Rattle.lts.specs.Some.{some_out}
 use Rattle.clauses.specs.declared.counterexample.Counterexample.{Counterexample}
 use Rattle.clauses.specs.Candidates.{
   or_else,

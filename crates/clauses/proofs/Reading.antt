@@ -1,8 +1,8 @@
 -- What the bytes of a workspace say of its machines.
-use Rattle.std.proofs.Common.{◌≡◌, ℕ, suc, ◌+◌, ◌*◌, ◌<◌, ◌≤◌, Bool, true, false, cond, ◌&&◌, eqb, ltb, leb, List, length, get_or, drop, None, sym, refl, ap, ◌∙◌, subst, ⊎_elim, mul-le-mul_right, suc-mul, arith}
+use Rattle.std.proofs.Common.{◌≡◌, ℕ, suc, ◌+◌, ◌*◌, ◌<◌, ◌≤◌, Bool, true, false, cond, ◌&&◌, eqb, ltb, leb, List, length, get_or, drop, None, refl, ap, ◌∙◌, mul-le-mul_right, suc-mul, arith}
 use Rattle.std.proofs.lemmas.Bool.{cond-true, cond-false, ne_eqb, and_from, lt-ltb, le-leb}
 use Rattle.lts.specs.Machines.{Machine, told_size, tau_reaches}
-use Rattle.closure.specs.Sheets.{Closed, cells, closure_byte}
+use Rattle.closure.specs.Sheets.{Closed, cells}
 use Rattle.clauses.specs.Ranks.{reads, rank_at, rank_in, stood_by}
 use Rattle.clauses.specs.Candidates.{first_by, first_failing}
 use Rattle.clauses.specs.Workspaces.{pairs, base, Prepared, stood_in, first_in}

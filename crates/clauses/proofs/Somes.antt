@@ -1,7 +1,7 @@
 -- Tests of the numbers below a bound that a loop raises.
-use Rattle.std.proofs.Common.{◌≡◌, ℕ, zero, suc, ◌+◌, ◌<◌, ◌≤◌, Bool, true, false, not, ◌&&◌, ◌||◌, sym, refl, ap, ◌∙◌, subst, ⊎_elim, add-one, arith}
-use Rattle.std.proofs.lemmas.Bool.{or_from, both_ways, cases_Bool, and_parts, and_from, and_left, and_right, cases_eq}
-use Rattle.lts.specs.Machines.{some_below, each_below, implies}
+use Rattle.std.proofs.Common.{◌≡◌, ℕ, zero, suc, ◌+◌, ◌<◌, Bool, true, false, ◌||◌, sym, refl, ap, ◌∙◌, subst, ⊎_elim, add-one, arith}
+use Rattle.std.proofs.lemmas.Bool.{or_from, both_ways, cases_Bool, and_parts, and_from, cases_eq}
+use Rattle.lts.specs.Machines.{some_below, each_below}
 use Rattle.lts.specs.Some.{same, some_in, some_out}
 
 -- no number is below 0

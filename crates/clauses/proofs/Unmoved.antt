@@ -1,8 +1,7 @@
 -- A label on no move that silent moves of p lead to.
-use Rattle.std.proofs.Common.{◌≡◌, ℕ, ◌<◌, Bool, true, false, not, ◌&&◌, None, sym, refl, ap, ◌∙◌, subst, ⊎_elim}
-use Rattle.std.proofs.lemmas.Bool.{both_ways, and_parts, and_from, and_left, and_cases, cond-false, cases_Bool}
+use Rattle.std.proofs.Common.{◌≡◌, ℕ, Bool, true, false, ◌&&◌, None, ⊎_elim}
+use Rattle.std.proofs.lemmas.Bool.{both_ways, and_parts, and_from, and_left, cond-false, cases_Bool}
 use Rattle.lts.specs.Machines.{Machine, Sound, some_below, initial}
-use Rattle.lts.specs.Some.{some_in, some_out}
 use Rattle.source.proofs.Initials.{initial_move}
 use Rattle.clauses.specs.Candidates.{weak_by, move_fails, first_move_on}
 use Rattle.clauses.proofs.Somes.{all_fail, none_at}

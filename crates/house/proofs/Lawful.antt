@@ -1,14 +1,14 @@
 -- Seats whose piles were judged to conform keep the promise.
-use Rattle.std.proofs.Common.{◌≡◌, ℕ, zero, suc, ◌*◌, ◌≤◌, Bool, true, false, not, ◌&&◌, eqb, ltb, List, [], ◌∷◌, length, Some, None, Option, refl, subst, ⊎_elim, mul-zero, zero-mul, arith}
+use Rattle.std.proofs.Common.{◌≡◌, ℕ, zero, suc, ◌*◌, ◌≤◌, true, not, ◌&&◌, eqb, ltb, List, [], ◌∷◌, length, Some, None, Option, refl, subst, ⊎_elim, mul-zero, zero-mul, arith}
 use Rattle.std.proofs.lemmas.Bool.{and_parts, not-true, eqb-false, true≢false, cases_eq}
 use Rattle.lts.specs.Labels.{member}
 use Rattle.lts.specs.Systems.{Lts, Conforms}
 use Rattle.lts.specs.Operators.{restrict, parallel}
 use Rattle.lts.specs.Machines.{Machine, Sound, Fits, system_of}
-use Rattle.lts.specs.Layers.{restrict_machine, parallel_machine}
+use Rattle.lts.specs.Layers.{parallel_machine}
 use Rattle.lts.specs.Soundness.{restrict_sound, parallel_sound, parallel_fits}
 use Rattle.lts.specs.Contexts.{row}
-use Rattle.lts.proofs.Proper.{Proper, proper}
+use Rattle.lts.proofs.Proper.{proper}
 use Rattle.lts.proofs.Order.{conforms_refl, conforms_trans, conforms_stuck}
 use Rattle.lts.proofs.Keeping.{restrict_keeps}
 use Rattle.lts.proofs.Sides.{parallel_keeps}
@@ -24,7 +24,7 @@ use Rattle.calls.specs.declared.seat.Pile.{Pile}
 use Rattle.calls.specs.declared.seat.Seat.{Seat}
 use Rattle.calls.specs.declared.seat.Seat.TheVariants.{Empty, Contract, Fitted}
 use Rattle.house.specs.declared.house.House.{House}
-use Rattle.calls.specs.Contents.{Contents, table_at, machine_at, helped, pile_machine}
+use Rattle.calls.specs.Contents.{table_at, machine_at, helped, pile_machine}
 use Rattle.calls.specs.Promises.{table_system, helped_system, pile_system, as_contracts, as_fitted, StuckOnlyWhereContractsCan}
 use Rattle.house.specs.Stored.{every, is_yes, judged_yes, helper_in, seat_in}
 use Rattle.house.specs.Means.{means}

@@ -1,9 +1,8 @@
 -- The tables of a house, as its memory has them.
-use Rattle.std.proofs.Common.{◌≡◌, ℕ, ◌+◌, ◌-◌, ◌<◌, ◌≤◌, true, leb, List, [], map, length, get_or, take, drop, sym, ap, ◌∙◌, subst, arith}
+use Rattle.std.proofs.Common.{◌≡◌, ℕ, ◌+◌, ◌-◌, ◌<◌, ◌≤◌, List, length, get_or, take, drop, sym, ap, ◌∙◌, subst, arith}
 use Rattle.std.proofs.lemmas.List.{length-map, get_or-map, get_or-take, length-take-le}
 use Rattle.std.proofs.lemmas.Bool.{leb-true}
 use Rattle.source.specs.declared.table.Move.{Move}
-use Rattle.table.specs.Table.{Listing}
 use Rattle.house.specs.declared.house.Entry.{Entry}
 use Rattle.house.specs.declared.house.House.{House}
 use Rattle.calls.specs.Contents.{table_at}

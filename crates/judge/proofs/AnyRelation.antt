@@ -1,8 +1,8 @@
 -- A relation of any kind that meets both clauses, by the machines that start at a pair of it.
-use Rattle.std.proofs.Common.{ℕ, ◌<◌, Bool, T}
-use Rattle.lts.specs.Systems.{Lts, Meets, Conforms, ReadyRefusal}
+use Rattle.std.proofs.Common.{ℕ, ◌<◌, T}
+use Rattle.lts.specs.Systems.{Meets, Conforms, ReadyRefusal}
 use Rattle.lts.specs.Machines.{Machine, system_of}
-use Rattle.lts.specs.Conformance.{MachineMeets, MachineConforms}
+use Rattle.lts.specs.Conformance.{MachineConforms}
 use Rattle.lts.specs.Claims.{MeetsClauses}
 use Rattle.lts.proofs.Proper.{Proper}
 use Rattle.lts.proofs.Claimed.{from_clauses}

@@ -1,5 +1,5 @@
 -- The worked cases, by computation.
-use Rattle.std.proofs.Common.{◌≡◌, refl}
+use Rattle.std.proofs.Common.{refl}
 use Rattle.lts.specs.Machines.{some_below, each_below, reach, tau_reaches, weak_step, initial}
 use Rattle.lts.specs.Layers.{synced}
 use Rattle.lts.specs.Conformance.{covers, passes, passes_moves, passes_refusals}

@@ -1,24 +1,20 @@
 -- What is read from a workspace that holds the final ranks.
-use Rattle.std.proofs.Common.{◌≡◌, ℕ, zero, suc, ◌+◌, ◌-◌, ◌*◌, ◌/◌, ◌%◌, ◌<◌, ◌≤◌, Bool, true, false, cond, List, [], ◌∷◌, ◌++◌, length, get_or, take, drop, Some, None, Option, sym, refl, ap, ◌∙◌, subst, arith, length-append, length-drop}
+use Rattle.std.proofs.Common.{◌≡◌, ℕ, zero, suc, ◌+◌, ◌-◌, ◌*◌, ◌/◌, ◌%◌, ◌<◌, List, [], ◌∷◌, ◌++◌, length, get_or, take, drop, Some, None, sym, refl, ap, ◌∙◌, subst, arith, length-append, length-drop}
 use lib.Arith.{digits_lt}
 use Rattle.std.proofs.lemmas.List.{drop-drop, drop_at, ext_get_or}
 use Rattle.lts.specs.Machines.{Machine, Sound, Fits, tau_reaches}
 use Rattle.closure.specs.Sheets.{cells, closure_sheet, Closed}
-use Rattle.closure.proofs.Parts.{part_end}
 use Rattle.closure.proofs.Sheets.{length_sheet, sheet_closed}
 use Rattle.clauses.specs.Ranks.{rank_at, stood_by}
 use Rattle.clauses.specs.Candidates.{first_failing}
-use Rattle.clauses.specs.Workspaces.{pairs, base, Prepared, stood_in}
+use Rattle.clauses.specs.Workspaces.{pairs, base, stood_in}
 use Rattle.clauses.specs.declared.counterexample.Counterexample.{Counterexample}
 use Rattle.clauses.proofs.Agreeing.{first_agrees}
-use Rattle.clauses.proofs.Reading.{base_same, pairs_same}
 use Rattle.ranks.specs.Rounds.{stands, ranks_after, final_ranks, ranks_in}
 use Rattle.ranks.specs.Filled.{laid, total, whole}
 use Rattle.ranks.proofs.After.{length_ranks, pair_in}
-use Rattle.ranks.proofs.Placed.{ranks_part, ranks_at, length_in, part_same}
-use Rattle.ranks.proofs.Filled.{room_is}
+use Rattle.ranks.proofs.Placed.{ranks_at, length_in, part_same}
 use Rattle.judge.specs.Verdicts.{start_rank, no_by, answer_by, answer, Holding}
-use Rattle.judge.specs.declared.verdict.Answer.{Answer}
 use Rattle.judge.specs.declared.verdict.Answer.TheVariants.{Yes, No}
 use Rattle.judge.proofs.Struck.{stood_final, struck_some}
 

@@ -1,21 +1,17 @@
 -- The promises, from what stands.
-use Rattle.std.proofs.Common.{◌≡◌, ℕ, zero, suc, ◌+◌, ◌*◌, ◌<◌, ◌≤◌, Bool, true, false, not, ◌&&◌, T, eqb, ltb, ◌↔◌, List, get_or, Some, None, Ok, Option, sym, refl, ap, ◌∙◌, subst, subst₂, ⊎_elim, arith}
+use Rattle.std.proofs.Common.{◌≡◌, ℕ, zero, suc, ◌&&◌, T, eqb, ltb, Some, None, sym, refl, ap, ◌∙◌, subst, subst₂, ⊎_elim, arith}
 use Rattle.std.proofs.lemmas.Bool.{eq-eqb, eqb-true, lt-ltb, and_from, and_parts}
 use Rattle.lts.specs.Machines.{Machine, Sound, Fits}
-use Rattle.lts.specs.Conformance.{MachineConforms, MachineMeets}
-use Rattle.lts.specs.Layers.{MachineLayer, in_machine_context}
+use Rattle.lts.specs.Conformance.{MachineConforms}
 use Rattle.lts.proofs.Proper.{Proper, proper, is_true}
 use Rattle.lts.proofs.Lawful.{contexts_keep_conformance}
 use Rattle.clauses.specs.Candidates.{first_failing}
 use Rattle.clauses.specs.declared.counterexample.Counterexample.{Counterexample}
 use Rattle.clauses.proofs.Firsts.{cases_option}
-use Rattle.ranks.specs.Rounds.{stands, ranks_after, final_ranks}
-use Rattle.ranks.specs.Filled.{total}
-use Rattle.judge.specs.declared.verdict.Answer.{Answer}
+use Rattle.ranks.specs.Rounds.{stands, ranks_after}
 use Rattle.judge.specs.declared.verdict.Answer.TheVariants.{Yes, No}
-use Rattle.judge.specs.declared.verdict.Verdict.{Verdict}
-use Rattle.judge.specs.Verdicts.{start_rank, no_by, answer_by, answer, verdict, judged}
-use Rattle.judge.specs.Promises.{standing_pairs, Related, LargestRelation, ContextKeepsYes}
+use Rattle.judge.specs.Verdicts.{start_rank, no_by, answer_by, answer, verdict}
+use Rattle.judge.specs.Promises.{standing_pairs, LargestRelation, ContextKeepsYes}
 use Rattle.judge.proofs.Struck.{struck_some}
 use Rattle.judge.proofs.Held.{start_in}
 use Rattle.judge.proofs.Refused.{accepts}

@@ -1,17 +1,16 @@
 -- The ranks tell what stands, round by round, and at the end the largest relation.
-use Rattle.std.proofs.Common.{◌≡◌, ℕ, zero, suc, ◌+◌, ◌*◌, ◌/◌, ◌%◌, ◌<◌, ◌≤◌, Bool, true, false, cond, not, ◌&&◌, T, eqb, ltb, get_or, is_some, sym, refl, ap, ◌∙◌, subst, subst₂, ⊎_elim, arith}
+use Rattle.std.proofs.Common.{◌≡◌, ℕ, zero, suc, ◌+◌, ◌*◌, ◌%◌, ◌<◌, Bool, true, false, cond, not, ◌&&◌, T, eqb, ltb, get_or, is_some, sym, refl, ap, ◌∙◌, subst, arith}
 use Rattle.std.proofs.lemmas.Nat.{div-mul-add, mod-mul-add}
 use Rattle.std.proofs.lemmas.Bool.{eq-eqb, ne_eqb, lt-ltb, ltb-true, and_from, and_parts}
-use Rattle.lts.specs.Machines.{Machine, Sound, Fits, tau_reaches}
+use Rattle.lts.specs.Machines.{Machine, tau_reaches}
 use Rattle.lts.specs.Conformance.{passes, standing, largest, MachineMeets}
-use Rattle.lts.proofs.Proper.{Proper, proper, is_true}
-use Rattle.lts.proofs.Tests.{both, both_0, both_1}
+use Rattle.lts.proofs.Proper.{Proper, is_true}
+use Rattle.lts.proofs.Tests.{both, both_0}
 use Rattle.lts.proofs.Largest.{early, largest_stands, largest_meets_tested, holds_each}
 use Rattle.clauses.specs.Candidates.{first_failing}
-use Rattle.clauses.specs.Workspaces.{pairs}
 use Rattle.clauses.proofs.Agreeing.{first_agrees}
 use Rattle.clauses.proofs.Passing.{fails_exactly}
-use Rattle.ranks.specs.Rounds.{stands, strikes_at, strikes, ranks_after, last_round, final_ranks}
+use Rattle.ranks.specs.Rounds.{stands, strikes_at, ranks_after, last_round, final_ranks}
 use Rattle.ranks.proofs.After.{ranks_none, ranks_more, pair_in, stable, stable_passes}
 use Rattle.judge.specs.Promises.{standing_pairs}
 

@@ -1,7 +1,7 @@
 -- What a final rank says of the round that struck the pair.
-use Rattle.std.proofs.Common.{◌≡◌, ℕ, zero, suc, ◌+◌, ◌-◌, ◌*◌, ◌/◌, ◌%◌, ◌<◌, ◌≤◌, Bool, true, false, cond, not, ◌&&◌, ◌||◌, eqb, leb, List, get_or, None, sym, refl, ap, ◌∙◌, subst, subst₂, ⊎_elim, suc-add, zero-add, arith}
+use Rattle.std.proofs.Common.{◌≡◌, ℕ, zero, suc, ◌+◌, ◌-◌, ◌*◌, ◌/◌, ◌%◌, ◌<◌, Bool, true, false, not, ◌||◌, eqb, leb, get_or, None, sym, refl, ap, ◌∙◌, subst, subst₂, ⊎_elim, suc-add, zero-add, arith}
 use Rattle.std.proofs.lemmas.Nat.{div-mul-add, mod-mul-add}
-use Rattle.std.proofs.lemmas.Bool.{cases_Bool, cases_eq, cond-true, cond-false, and_parts, eqb-true, eq-eqb, lt-leb, le-leb, or_right, both_ways, not-true}
+use Rattle.std.proofs.lemmas.Bool.{cases_Bool, cond-true, cond-false, and_parts, eqb-true, lt-leb, le-leb, or_right, both_ways, not-true}
 use Rattle.lts.specs.Machines.{Machine}
 use Rattle.lts.specs.Conformance.{passes}
 use Rattle.clauses.specs.Ranks.{stood_by}

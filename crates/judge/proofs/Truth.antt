@@ -1,14 +1,13 @@
 -- What is found to fail truly fails.
-use Rattle.std.proofs.Common.{◌≡◌, ℕ, zero, suc, ◌<◌, ◌≤◌, Bool, true, false, cond, not, ◌&&◌, T, ltb, Some, None, Option, sym, refl, ap, ◌∙◌, subst, ⊎_elim, arith}
+use Rattle.std.proofs.Common.{◌≡◌, ℕ, zero, suc, ◌<◌, Bool, true, false, not, ◌&&◌, T, ltb, Some, None, Option, sym, refl, ap, ◌∙◌, subst, ⊎_elim, arith}
 use Rattle.std.proofs.lemmas.Bool.{and_parts, and_from, cases_Bool, cond-true, cond-false, both_ways, not-true, lt-ltb}
-use Rattle.lts.specs.Systems.{TauReaches, WeakStep, Stable, Initial, ReadyOn}
-use Rattle.lts.specs.Machines.{Machine, Sound, Fits, system_of, some_below, each_below, implies, tau_reaches, weak_step, stable, initial}
+use Rattle.lts.specs.Systems.{TauReaches, Stable, Initial, ReadyOn}
+use Rattle.lts.specs.Machines.{Machine, Sound, system_of, some_below, implies, tau_reaches, weak_step, stable, initial}
 use Rattle.lts.specs.Covering.{Witness}
 use Rattle.lts.specs.Conformance.{covers}
 use Rattle.lts.proofs.Proper.{Proper, proper, is_true}
 use Rattle.lts.proofs.Tests.{Tells, tells_and, tells_implies, tells_ltb, tells_each}
 use Rattle.lts.proofs.Readings.{tells_tau_reaches, tells_weak_step, tells_initial, tells_stable, reaches_in}
-use Rattle.lts.specs.Some.{some_in}
 use Rattle.clauses.specs.Candidates.{
   or_else,
   when,
@@ -31,7 +30,6 @@ use Rattle.clauses.specs.declared.counterexample.Counterexample.TheVariants.{Mov
 use Rattle.clauses.proofs.Firsts.{cases_option, not_both, found_at}
 use Rattle.clauses.proofs.Somes.{none_at}
 use Rattle.ranks.specs.Rounds.{stands, ranks_after}
-use Rattle.judge.specs.declared.verdict.Answer.{Answer}
 use Rattle.judge.specs.declared.verdict.Answer.TheVariants.{Yes, No}
 use Rattle.judge.specs.Verdicts.{start_rank, no_by, answer_by, answer}
 use Rattle.judge.specs.Promises.{Fails, CounterexampleFails}

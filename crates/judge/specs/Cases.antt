@@ -7,7 +7,6 @@ use Rattle.ranks.specs.Rounds.{final_ranks}
 use Rattle.ranks.specs.Filled.{whole}
 use Rattle.judge.specs.declared.verdict.Answer.{Answer}
 use Rattle.judge.specs.declared.verdict.Answer.TheVariants.{Yes, No}
-use Rattle.judge.specs.declared.verdict.Verdict.{Verdict}
 use Rattle.judge.specs.Verdicts.{answer, verdict}
 
 -- from, label, to

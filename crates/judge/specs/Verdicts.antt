@@ -1,5 +1,5 @@
 -- What the judge answers.
-use Rattle.std.specs.Prelude.{◌≡◌, ℕ, zero, suc, ◌+◌, ◌*◌, ◌<◌, ◌≤◌, Bool, cond, List, Some, None, Option, Result, ◌==◌, slice_index}
+use Rattle.std.specs.Prelude.{◌≡◌, ℕ, zero, suc, ◌+◌, ◌*◌, cond, List, Some, None, Option, Result, ◌==◌, slice_index}
 use Rattle.lts.specs.Machines.{Machine, Fits}
 use Rattle.source.specs.declared.refusal.Refusal.{Refusal}
 use Rattle.clauses.specs.Candidates.{first_failing}

@@ -1,4 +1,4 @@
-use Rattle.std.proofs.Common.{◌≡◌, ℕ, ◌<◌, Bool, List, [], ◌∷◌}
+use Rattle.std.proofs.Common.{◌≡◌, ℕ, Bool, List, [], ◌∷◌}
 use Rattle.lts.proofs.Order.{refl_meets, trans_meets}
 use Rattle.lts.proofs.Sides.{parallel_meets}
 use Rattle.lts.proofs.Coverings.{refusals_of, refusals_to}

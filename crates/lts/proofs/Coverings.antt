@@ -1,4 +1,4 @@
-use Rattle.std.proofs.Common.{◌≡◌, ℕ, ◌<◌, Bool, true, false, not, T, sym, refl, subst, arith}
+use Rattle.std.proofs.Common.{◌≡◌, ℕ, ◌<◌, Bool, not, T, sym, subst, arith}
 use Rattle.lts.proofs.Tests.{Tells, TStable, tells_not}
 use Rattle.lts.specs.Covering.{Covered, Covered¬¬, Refusals, TestedRefusals}
 use Rattle.lts.specs.Labels.{complement}

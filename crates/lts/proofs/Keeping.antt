@@ -1,5 +1,5 @@
 -- Restriction and relabelling keep conformance.
-use Rattle.std.proofs.Common.{◌≡◌, ℕ, ◌+◌, ◌*◌, ◌/◌, ◌%◌, ◌<◌, ◌≤◌, Bool, true, false, cond, T, ltb, ◌⊎◌, sym, refl, ap, ◌∙◌, subst, inl, inr, arith, ltb→lt, lt→ltb, nltb→le}
+use Rattle.std.proofs.Common.{◌≡◌, ℕ, ◌+◌, ◌*◌, ◌/◌, ◌%◌, ◌<◌, ◌≤◌, Bool, true, false, cond, T, ltb, sym, refl, ap, ◌∙◌, subst, arith, ltb→lt, lt→ltb}
 use native.Mathlib.Decide.{dec_lt}
 use Rattle.lts.specs.Labels.{complement, name_of}
 use Rattle.lts.specs.Operators.{Names, relabel, renamed, restrict}

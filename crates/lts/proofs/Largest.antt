@@ -1,35 +1,15 @@
 -- The pairs that stand after enough rounds are the largest relation that meets the clauses.
-use Rattle.std.proofs.Common.{◌≡◌, ℕ, zero, suc, ◌+◌, ◌-◌, ◌*◌, ◌/◌, ◌%◌, ◌<◌, ◌≤◌, Bool, true, false, not, ◌&&◌, ◌||◌, T, ltb, ◌⊎◌, sym, refl, ap, ◌∙◌, subst, subst₂, inl, inr, mul-le-mul_right, suc-mul, suc-add, zero-add, arith}
+use Rattle.std.proofs.Common.{◌≡◌, ℕ, zero, suc, ◌+◌, ◌-◌, ◌*◌, ◌/◌, ◌%◌, ◌<◌, ◌≤◌, Bool, true, false, not, T, subst, subst₂, mul-le-mul_right, suc-mul, suc-add, zero-add, arith}
 use native.Mathlib.Decide.{dec_lt}
 use lib.Arith.{digits_div, digits_mod}
-use Rattle.lts.proofs.Tests.{
-  Tells,
-  both,
-  both_0,
-  both_1,
-  either,
-  or_0,
-  or_1,
-  TDec,
-  TStable,
-  tells_self,
-  tells_and,
-  tells_not,
-  tells_implies,
-  tells_ltb,
-  tells_iff,
-  tells_some,
-  tells_each,
-}
+use Rattle.lts.proofs.Tests.{Tells, both, both_0, both_1, tells_self, tells_and, tells_implies, tells_ltb, tells_iff, tells_some, tells_each}
 use Rattle.lts.proofs.Readings.{tells_tau_reaches, tells_weak_step, tells_stable, tells_initial, reaches_in}
 use Rattle.lts.proofs.Coverings.{covered_weak, refusals_of, refusals_tested, refusals_decided}
 use Rattle.lts.proofs.Chain.{steady}
-use Rattle.lts.specs.Claims.{Chain}
 use Rattle.lts.specs.Conformance.{MachineConforms, MachineMeets, covers, largest, passes, passes_moves, passes_refusals, standing}
 use Rattle.lts.specs.Covering.{Covered, TestedRefusals, Witness}
 use Rattle.lts.specs.Laws.{IsLargest}
-use Rattle.lts.specs.Machines.{Machine, stable, system_of, initial}
-use Rattle.lts.specs.Operators.{sync}
+use Rattle.lts.specs.Machines.{Machine, system_of, initial}
 use Rattle.lts.specs.Systems.{Conforms, Initial, Meets, ReadyOn, Stable, TauReaches, WeakStep}
 use Rattle.lts.proofs.Proper.{Proper}
 

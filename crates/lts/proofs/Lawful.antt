@@ -1,24 +1,12 @@
 -- The laws of machines, from those of systems.
-use Rattle.std.proofs.Common.{◌≡◌, ℕ, ◌*◌, ◌≤◌, T, ◌↔◌, List, [], ◌∷◌, ap, ⊎_elim, mul-zero, zero-mul, arith}
+use Rattle.std.proofs.Common.{◌≡◌, ℕ, ◌*◌, T, List, [], ◌∷◌, ap, ⊎_elim, mul-zero, zero-mul, arith}
 use Rattle.std.proofs.lemmas.Bool.{cases_eq}
 use Rattle.lts.specs.Labels.{member}
 use Rattle.lts.specs.Systems.{Lts, Conforms}
 use Rattle.lts.specs.Operators.{restrict, relabel, parallel}
 use Rattle.lts.specs.Machines.{Machine, Sound, Fits, system_of, initial}
-use Rattle.lts.specs.Covering.{Covered, TestedRefusals}
 use Rattle.lts.specs.Conformance.{MachineConforms, largest}
-use Rattle.lts.specs.Layers.{
-  MachineLayer,
-  restriction,
-  relabelling,
-  on_right,
-  on_left,
-  put_over,
-  in_machine_context,
-  by_list,
-  parallel_size,
-  parallel_machine,
-}
+use Rattle.lts.specs.Layers.{MachineLayer, restriction, relabelling, on_right, on_left, put_over, in_machine_context, by_list, parallel_machine}
 use Rattle.lts.specs.Soundness.{by_list_names, parallel_fits, put_over_sound, context_sound}
 use Rattle.lts.specs.Laws.{ShowsConformance, TestedConformance, RefusalsAgree, IsLargest, ContextKeeps, StuckOnlyIf}
 use Rattle.lts.proofs.Proper.{Proper, proper}

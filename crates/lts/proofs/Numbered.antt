@@ -1,28 +1,16 @@
 -- A layer over a machine behaves as the same layer over its system.
-use Rattle.std.proofs.Common.{◌≡◌, ℕ, zero, suc, ◌+◌, ◌*◌, ◌/◌, ◌%◌, ◌<◌, ◌≤◌, Bool, true, false, not, ◌&&◌, ◌||◌, T, eqb, ltb, List, [], ◌∷◌, sym, refl, ap, ◌∙◌, subst, subst₂, inl, inr, ⊎_elim, mod-lt, mul_comm, div-lt_iff_lt-mul, div-add-mod', arith, eqb→eq, ltb→lt, lt→ltb}
+use Rattle.std.proofs.Common.{◌≡◌, ℕ, zero, ◌+◌, ◌*◌, ◌/◌, ◌%◌, ◌<◌, not, ◌&&◌, ◌||◌, T, eqb, ltb, List, sym, refl, ap, ◌∙◌, subst, subst₂, inl, inr, mod-lt, mul_comm, div-lt_iff_lt-mul, div-add-mod', arith, eqb→eq, ltb→lt, lt→ltb}
 use lib.Arith.{digits_div, digits_mod}
 use lib.Dec.{eqb_refl}
 use Rattle.std.proofs.lemmas.Nat.{mul-add-lt}
 use Rattle.std.proofs.lemmas.Bool.{cond-false, ne_eqb}
 use Rattle.lts.specs.Labels.{complement, name_of, member}
-use Rattle.lts.specs.Systems.{Lts, Star, stay, step, TauReaches, Meets, Conforms}
+use Rattle.lts.specs.Systems.{Lts, stay, step, TauReaches, Conforms}
 use Rattle.lts.specs.Operators.{restrict, renamed, relabel, Joint, left, right, sync, parallel}
-use Rattle.lts.specs.Machines.{Machine, Sound, Fits, system_of}
-use Rattle.lts.specs.Layers.{
-  restricted,
-  restrict_machine,
-  by_list,
-  all_names,
-  relabelled_move,
-  relabel_machine,
-  synced,
-  joint_move,
-  parallel_size,
-  parallel_move,
-  parallel_machine,
-}
+use Rattle.lts.specs.Machines.{Machine, Fits, system_of}
+use Rattle.lts.specs.Layers.{restricted, restrict_machine, by_list, relabelled_move, relabel_machine, synced, joint_move, parallel_size, parallel_move, parallel_machine}
 use Rattle.lts.specs.Soundness.{parallel_fits}
-use Rattle.lts.proofs.Proper.{Proper, proper}
+use Rattle.lts.proofs.Proper.{Proper}
 use Rattle.lts.proofs.Tests.{Tells, both, both_0, both_1, either, or_0, or_1, tells_some, tells_and, tells_not, tells_ltb, tells_eqb, tells_self}
 
 -- a relation by which each move of the one is one of the other, both ways

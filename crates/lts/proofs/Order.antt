@@ -1,24 +1,7 @@
 -- Conformance is a preorder, and keeps from getting stuck.
-use Rattle.std.proofs.Common.{◌≡◌, ℕ, ◌<◌, Bool, true, false, T, sym, refl, subst, inl, inr, arith}
+use Rattle.std.proofs.Common.{◌≡◌, ℕ, Bool, T, sym, refl, subst, inl, inr, arith}
 use Rattle.lts.specs.Labels.{complement, name_of}
-use Rattle.lts.specs.Systems.{
-  Lts,
-  Star,
-  TauReaches,
-  stay,
-  step,
-  WeakStep,
-  Stable,
-  Initial,
-  Refuses,
-  ReadyOn,
-  ReadyRefusal,
-  Meets,
-  Conforms,
-  Stuck,
-  Outside,
-  CanGetStuck,
-}
+use Rattle.lts.specs.Systems.{Lts, Star, TauReaches, stay, step, WeakStep, ReadyRefusal, Meets, Conforms, Stuck, Outside, CanGetStuck}
 use Rattle.lts.specs.Claims.{AfterTau}
 use Rattle.lts.proofs.Tests.{TStable}
 

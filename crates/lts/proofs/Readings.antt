@@ -1,45 +1,12 @@
 -- Each test on machines says what its word means on their systems.
-use Rattle.std.proofs.Common.{◌≡◌, ℕ, zero, suc, ◌<◌, Bool, not, ◌&&◌, ◌||◌, T, eqb, ltb, ◌⊎◌, ◌↔◌, subst, inl, inr, arith, eqb→eq}
+use Rattle.std.proofs.Common.{ℕ, zero, suc, ◌<◌, Bool, not, ◌&&◌, T, ◌⊎◌, ◌↔◌, subst, inl, inr, eqb→eq}
 use lib.Dec.{eqb_refl}
 use Rattle.lts.specs.Labels.{name_of}
 use Rattle.lts.specs.Systems.{Star, stay, step, TauReaches, WeakStep, Stable, Initial, Stuck, Outside}
-use Rattle.lts.specs.Machines.{
-  Machine,
-  Sound,
-  Fits,
-  system_of,
-  some_below,
-  each_below,
-  implies,
-  reach,
-  tau_reaches,
-  weak_step,
-  initial,
-  stable,
-  stuck,
-  outside,
-  reached_from,
-}
+use Rattle.lts.specs.Machines.{Machine, Sound, Fits, system_of, some_below, implies, reach, tau_reaches, weak_step, initial, stable, stuck, outside, reached_from}
 use Rattle.lts.specs.Laws.{ReadingsAgree}
 use Rattle.lts.proofs.Proper.{Proper, proper}
-use Rattle.lts.proofs.Tests.{
-  Tells,
-  both_0,
-  both_1,
-  either,
-  or_0,
-  or_1,
-  both,
-  tells_self,
-  tells_and,
-  tells_or,
-  tells_not,
-  tells_implies,
-  tells_ltb,
-  tells_iff,
-  tells_some,
-  tells_each,
-}
+use Rattle.lts.proofs.Tests.{Tells, either, or_0, or_1, tells_self, tells_and, tells_or, tells_not, tells_implies, tells_ltb, tells_iff, tells_some, tells_each}
 use Rattle.lts.proofs.Chain.{steady}
 
 -- n steps through the numbers below n suffice

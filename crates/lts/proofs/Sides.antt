@@ -1,5 +1,5 @@
 -- parallel keeps conformance, in both places at once.
-use Rattle.std.proofs.Common.{◌≡◌, ℕ, ◌+◌, ◌%◌, ◌<◌, ◌≤◌, ◌⊎◌, sym, refl, ap, ◌∙◌, subst, inl, inr, arith}
+use Rattle.std.proofs.Common.{◌≡◌, ℕ, ◌<◌, ◌⊎◌, sym, refl, subst, inl, inr, arith}
 use native.Mathlib.Decide.{dec_lt}
 use Rattle.lts.proofs.Order.{reaches_trans, after_tau_meets, after_tau_later}
 use Rattle.lts.specs.Claims.{AfterTau, SideBySide}

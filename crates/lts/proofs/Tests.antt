@@ -1,6 +1,6 @@
 -- What the tests of machines say.
-use Rattle.std.proofs.Common.{◌≡◌, ℕ, zero, suc, ◌+◌, ◌*◌, ◌<◌, ◌≤◌, Bool, true, false, not, ◌&&◌, ◌||◌, T, eqb, ltb, ◌⊎◌, sym, refl, ap, ◌∙◌, subst, inl, inr, arith, eqb→eq, ltb→lt, lt→ltb}
-use native.Mathlib.Decide.{dec_lt, ℕ_discrete}
+use Rattle.std.proofs.Common.{◌≡◌, ℕ, zero, suc, ◌<◌, Bool, true, false, not, ◌&&◌, ◌||◌, T, eqb, ltb, ◌⊎◌, sym, subst, inl, inr, arith, eqb→eq, ltb→lt, lt→ltb}
+use native.Mathlib.Decide.{ℕ_discrete}
 use lib.Dec.{eqb_refl}
 use Rattle.lts.specs.Machines.{some_below, each_below, implies}
 

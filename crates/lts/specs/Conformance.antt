@@ -1,6 +1,6 @@
 -- Conformance of machines. The relations and the label sets are tests here; that it is the conformance of their
 -- systems, whose relations and label sets are any properties, is a law.
-use Rattle.std.specs.Prelude.{ℕ, zero, suc, ◌*◌, ◌<◌, Bool, true, false, not, ◌&&◌, ◌||◌, T, nat_lt}
+use Rattle.std.specs.Prelude.{ℕ, zero, suc, ◌*◌, ◌<◌, Bool, ◌&&◌, T, nat_lt}
 use Rattle.lts.specs.Systems.{WeakStep, ReadyRefusal}
 use Rattle.lts.specs.Machines.{Machine, system_of, some_below, each_below, implies, tau_reaches, weak_step, stable, initial}
 

@@ -1,7 +1,7 @@
 -- What the laws of machines and systems say.
 use Rattle.std.specs.Prelude.{ℕ, ◌<◌, Bool, T, ◌↔◌, List}
 use Rattle.lts.specs.Systems.{Lts, Star, TauReaches, WeakStep, Stable, Initial, Stuck, Outside, CanGetStuck}
-use Rattle.lts.specs.Machines.{Machine, Sound, Fits, system_of, tau_reaches, weak_step, stable, initial, stuck, reached_from}
+use Rattle.lts.specs.Machines.{Machine, Fits, system_of, tau_reaches, weak_step, stable, initial, stuck, reached_from}
 use Rattle.lts.specs.Covering.{Covered, TestedRefusals}
 use Rattle.lts.specs.Conformance.{MachineMeets, MachineConforms, largest}
 use Rattle.lts.specs.Layers.{MachineLayer, in_machine_context}

@@ -1,7 +1,7 @@
 -- Three ways to make a system from systems, and contexts made of them.
-use Rattle.std.specs.Prelude.{◌≡◌, ℕ, ◌+◌, ◌*◌, ◌/◌, ◌%◌, ◌<◌, Bool, cond, T, List, [], ◌∷◌, nat_lt}
+use Rattle.std.specs.Prelude.{◌≡◌, ℕ, ◌+◌, ◌*◌, ◌/◌, ◌%◌, ◌<◌, Bool, cond, T, nat_lt}
 use Rattle.lts.specs.Labels.{complement, name_of}
-use Rattle.lts.specs.Systems.{Lts, Conforms}
+use Rattle.lts.specs.Systems.{Lts}
 
 -- Restriction drops the moves on a set of names, in both directions. Nothing becomes silent by it.
 abbrev pub restrict : (ℕ → Bool) → Lts → Lts

@@ -1,18 +1,17 @@
 -- The ranks after each round, one by one, and the last round.
-use Rattle.std.proofs.Common.{◌≡◌, ℕ, zero, suc, ◌+◌, ◌*◌, ◌/◌, ◌%◌, ◌<◌, ◌≤◌, Bool, true, false, cond, not, ◌&&◌, ◌||◌, eqb, ◌⊎◌, List, map, length, get_or, replicate, sym, refl, ap, ◌∙◌, subst, subst₂, inl, inr, ⊎_elim, mul-zero, arith}
+use Rattle.std.proofs.Common.{◌≡◌, ℕ, zero, suc, ◌+◌, ◌*◌, ◌/◌, ◌%◌, ◌<◌, ◌≤◌, true, false, cond, not, eqb, List, length, get_or, sym, ap, ◌∙◌, subst, subst₂, ⊎_elim, mul-zero, arith}
 use lib.Arith.{digits_lt}
 use lib.ListN.{length-replicate}
-use Rattle.std.specs.List.{range_with_len}
 use Rattle.std.proofs.lemmas.List.FromFn.{get_or-map-range_with_len, length-map-range_with_len}
 use Rattle.std.proofs.lemmas.List.{get_or-replicate}
-use Rattle.std.proofs.lemmas.Nat.{div_below, mod_below, div-add-mod', div-mul-add, mod-mul-add}
-use Rattle.std.proofs.lemmas.Bool.{and_parts, and_from, and_left, and_right, eqb-true, eq-eqb, ne_eqb, cases_Bool, cases_eq, cond-true, cond-false, not_from_true, not-true, both_ways}
-use Rattle.lts.specs.Machines.{Machine, some_below}
+use Rattle.std.proofs.lemmas.Nat.{div_below, mod_below, div-mul-add, mod-mul-add}
+use Rattle.std.proofs.lemmas.Bool.{and_parts, and_from, eqb-true, cases_Bool, cases_eq, cond-true, cond-false, both_ways}
+use Rattle.lts.specs.Machines.{Machine}
 use Rattle.lts.specs.Conformance.{passes}
 use Rattle.lts.specs.Some.{some_in, some_out}
 use Rattle.clauses.specs.Workspaces.{pairs}
 use Rattle.ranks.specs.Rounds.{stands, strikes_at, strike, ranks_after, strikes, last_from, last_round, final_ranks}
-use Rattle.ranks.proofs.Counts.{marked, marked_le, marked_full, marked_new}
+use Rattle.ranks.proofs.Counts.{marked, marked_full, marked_new}
 
 module _ (M N : Machine) where
   pub some_column : (i : ℕ) → i < pairs M N → 0 < N.size

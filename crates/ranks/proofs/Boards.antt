@@ -1,9 +1,8 @@
 -- A round by rows is a round.
-use Rattle.std.proofs.Common.{◌≡◌, ℕ, ◌+◌, ◌*◌, ◌/◌, ◌%◌, ◌<◌, ◌≤◌, Bool, true, false, cond, not, ◌&&◌, eqb, ltb, ◌⊎◌, List, length, get_or, take, drop, sym, refl, ap, ◌∙◌, subst, inl, inr, ⊎_elim, arith}
-use Rattle.std.specs.List.{range_with_len}
+use Rattle.std.proofs.Common.{◌≡◌, ℕ, ◌+◌, ◌*◌, ◌/◌, ◌%◌, ◌<◌, ◌≤◌, Bool, true, false, cond, not, ◌&&◌, eqb, ltb, List, get_or, drop, sym, refl, ap, ◌∙◌, ⊎_elim, arith}
 use Rattle.std.proofs.lemmas.List.FromFn.{get_or-map-range_with_len, fill_by_all}
 use Rattle.std.proofs.lemmas.Nat.{div-add-mod', div-mul-add, mod-mul-add}
-use Rattle.std.proofs.lemmas.Bool.{and_parts, and_from, and_left, and_right, lt-ltb, ltb-true, ne_eqb, cases_Bool, both_ways, cond-true, cond-false, not-true}
+use Rattle.std.proofs.lemmas.Bool.{and_parts, and_from, and_left, lt-ltb, ltb-true, ne_eqb, cases_Bool, both_ways, cond-true, cond-false, not-true}
 use Rattle.lts.specs.Machines.{Machine, some_below, each_below, implies, weak_step}
 use Rattle.lts.specs.Conformance.{passes, passes_moves, passes_refusals}
 use Rattle.lts.specs.Some.{same, some_in, some_out}

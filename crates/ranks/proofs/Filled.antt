@@ -1,5 +1,5 @@
 -- The workspace that is filled, as a list.
-use Rattle.std.proofs.Common.{◌≡◌, ℕ, zero, suc, ◌+◌, ◌-◌, ◌*◌, ◌/◌, ◌%◌, ◌<◌, ◌≤◌, Bool, true, false, cond, leb, List, [], ◌∷◌, ◌++◌, length, get_or, take, drop, sym, refl, ap, ◌∙◌, subst, mul_comm, add-mul, mul-add, arith, length-append, length-drop, length-take, rules}
+use Rattle.std.proofs.Common.{◌≡◌, ℕ, suc, ◌+◌, ◌-◌, ◌*◌, ◌/◌, ◌%◌, ◌<◌, ◌≤◌, leb, List, [], ◌∷◌, ◌++◌, length, get_or, take, drop, sym, ap, ◌∙◌, subst, mul_comm, add-mul, mul-add, arith, length-append, length-drop, length-take, rules}
 use borrow.Rule.Slice.PartMut.{put_mid}
 use Rattle.std.proofs.lemmas.List.{get_or-take, get_or-drop, take-append-drop, drop-drop, drop_at, take_at, ext_get_or, nil_from_length}
 use Rattle.std.proofs.lemmas.Slice.{overwrites}
@@ -8,9 +8,8 @@ use Rattle.lts.specs.Machines.{Machine}
 use Rattle.closure.specs.Sheets.{cells, closure_sheet, closure_after, Closed}
 use Rattle.closure.proofs.Parts.{part_end, put_part}
 use Rattle.closure.proofs.Sheets.{length_sheet, sheet_is, sheet_closed}
-use Rattle.clauses.specs.Ranks.{rank_at}
 use Rattle.clauses.specs.Workspaces.{pairs, base, Prepared}
-use Rattle.clauses.proofs.Reading.{square, base_same, pairs_same}
+use Rattle.clauses.proofs.Reading.{base_same, pairs_same}
 use Rattle.ranks.specs.Rounds.{ranks_after, final_ranks, ranks_in, BesideRanks}
 use Rattle.ranks.specs.Filled.{laid, total, whole}
 use Rattle.ranks.proofs.After.{length_ranks, ranks_none}

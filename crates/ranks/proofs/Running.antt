@@ -1,10 +1,10 @@
 -- Rounds until one strikes nothing.
-use Rattle.std.proofs.Common.{◌≡◌, ℕ, zero, suc, ◌+◌, ◌-◌, ◌*◌, ◌<◌, ◌≤◌, Bool, true, false, cond, not, ◌&&◌, ◌⊎◌, List, length, get_or, take, drop, sym, refl, ap, ◌∙◌, subst, inl, inr, ⊎_elim, mul-le-mul, add-one, arith}
+use Rattle.std.proofs.Common.{◌≡◌, ℕ, suc, ◌+◌, ◌<◌, ◌≤◌, Bool, true, false, List, length, get_or, sym, refl, ap, ◌∙◌, subst, ⊎_elim, mul-le-mul, add-one, arith}
 use Rattle.std.proofs.lemmas.List.{ext_get_or}
 use Rattle.std.proofs.lemmas.Bool.{cond-false, cases_Bool, cases_eq, both_ways}
-use Rattle.lts.specs.Machines.{Machine, Sound, some_below}
+use Rattle.lts.specs.Machines.{Machine, Sound}
 use Rattle.lts.specs.Some.{some_in}
-use Rattle.clauses.specs.Workspaces.{pairs, Prepared}
+use Rattle.clauses.specs.Workspaces.{pairs}
 use Rattle.ranks.specs.Rounds.{strikes_at, strike, strikes, ranks_after, last_round, final_ranks, ranks_in, BesideRanks}
 use Rattle.ranks.proofs.Counts.{marked, marked_le}
 use Rattle.ranks.proofs.After.{ranks_more, ranks_grow, length_ranks, last_is}

@@ -1,14 +1,13 @@
 -- Weak steps by rows.
-use Rattle.std.proofs.Common.{◌≡◌, ℕ, zero, suc, ◌+◌, ◌<◌, ◌≤◌, Bool, true, false, cond, not, ◌&&◌, ◌||◌, eqb, ltb, ◌⊎◌, List, length, get_or, set, sym, refl, ap, ◌∙◌, subst, inl, inr, ⊎_elim, add-one, arith, length-set, get_or-set_other, get_or-set_same}
-use Rattle.std.proofs.lemmas.Bool.{and_parts, and_from, and_left, and_right, lt-ltb, le-ltb, ltb-true, eq-eqb, eqb-true, cases_eq, cases_lt, cases_Bool, both_ways}
+use Rattle.std.proofs.Common.{◌≡◌, ℕ, ◌+◌, ◌<◌, ◌≤◌, Bool, true, false, ◌&&◌, eqb, ltb, sym, refl, ap, ◌∙◌, subst, ⊎_elim, add-one, arith}
+use Rattle.std.proofs.lemmas.Bool.{and_parts, and_from, and_right, lt-ltb, le-ltb, ltb-true, eq-eqb, eqb-true, cases_Bool, both_ways}
 use Rattle.lts.specs.Machines.{Machine, some_below, each_below, implies, tau_reaches, weak_step}
 use Rattle.lts.specs.Some.{same, some_in, some_out}
 use Rattle.dense.specs.declared.row.Row.{Row}
-use Rattle.dense.specs.Rows.{in_row, none}
+use Rattle.dense.specs.Rows.{in_row}
 use Rattle.dense.specs.Copies.{moves_into}
 use Rattle.dense.proofs.Tests.{below_next}
-use Rattle.clauses.proofs.Somes.{some_alike, each_in, each_out}
-use Rattle.ranks.specs.Steps.{in_rows, steps_into, answered, all_answered}
+use Rattle.ranks.specs.Steps.{steps_into}
 
 -- a closure that meets the states before a set
 pub meets_before : (M : Machine) (l p : ℕ) (X : ℕ → Bool) (closure before : Row) → M.size ≤ 255 →

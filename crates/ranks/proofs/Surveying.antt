@@ -1,5 +1,5 @@
 -- What is known of the two machines before the rounds.
-use Rattle.std.proofs.Common.{◌≡◌, ℕ, ◌+◌, ◌*◌, ◌<◌, ◌≤◌, Bool, true, false, not, ◌&&◌, eqb, ltb, leb, List, length, get_or, drop, set, is_some, sym, refl, ap, ◌∙◌, subst, ⊎_elim, arith, length-drop, get_or-set_other, get_or-set_same}
+use Rattle.std.proofs.Common.{◌≡◌, ℕ, ◌+◌, ◌<◌, ◌≤◌, Bool, true, not, ◌&&◌, eqb, ltb, leb, List, length, get_or, set, is_some, sym, refl, ap, ◌∙◌, subst, ⊎_elim, arith, get_or-set_other, get_or-set_same}
 use Rattle.std.proofs.lemmas.Bool.{and_parts, and_from, and_left, lt-ltb, le-ltb, le-leb, ltb-true, eqb-true, eq-eqb, cases_eq, cases_lt}
 use Rattle.lts.specs.Machines.{Machine, Sound, some_below, tau_reaches, stable}
 use Rattle.lts.specs.Conformance.{passes_refusals}
@@ -9,7 +9,6 @@ use Rattle.dense.specs.Rows.{in_row}
 use Rattle.dense.specs.Copies.{moves_into}
 use Rattle.closure.specs.Sheets.{cells, Closed}
 use Rattle.clauses.specs.Ranks.{reads}
-use Rattle.clauses.specs.Candidates.{first_rest_at}
 use Rattle.clauses.specs.Uncovered.{uncovered_by, uncovered_in}
 use Rattle.clauses.proofs.Agreeing.{at_same}
 use Rattle.clauses.proofs.Passing.{refusals_are}

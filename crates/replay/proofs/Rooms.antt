@@ -8,7 +8,6 @@ use Rattle.source.specs.declared.refusal.Refusal.TheVariants.{TooLarge, TooShort
 use Rattle.ranks.specs.Filled.{total}
 use Rattle.judge.specs.declared.verdict.Verdict.{Verdict}
 use Rattle.judge.specs.Verdicts.{verdict, judged}
-use Rattle.calls.specs.declared.refusal.Refusal.{Refusal}
 use Rattle.calls.specs.declared.seat.Pile.{Pile}
 use Rattle.calls.specs.Seats.{contract}
 use Rattle.calls.specs.Contents.{Contents, seat_at}

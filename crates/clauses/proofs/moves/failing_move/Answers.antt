@@ -1,5 +1,5 @@
-use Rattle.std.proofs.Common.{◌≡◌, ℕ, ◌+◌, ◌*◌, ◌<◌, true, false, ◌&&◌, sym, refl, ap, ◌∙◌, subst, arith}
-use Rattle.lts.specs.Machines.{Machine, some_below, initial}
+use Rattle.std.proofs.Common.{◌≡◌, ℕ, ◌+◌, ◌*◌, false, ◌&&◌, sym, ◌∙◌, subst}
+use Rattle.lts.specs.Machines.{some_below, initial}
 use Rattle.dense.specs.Copies.{meaning}
 use Rattle.clauses.specs.Ranks.{reads, rank_at, stood_by}
 use Rattle.clauses.specs.Candidates.{first_move_on, first_move}

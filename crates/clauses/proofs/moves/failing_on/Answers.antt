@@ -1,7 +1,6 @@
-use Rattle.std.proofs.Common.{◌≡◌, ℕ, ◌+◌, ◌*◌, ◌<◌, Bool, true, false, not, ◌&&◌, length, Some, None, sym, refl, ap, ◌∙◌, subst, arith, below_more}
+use Rattle.std.proofs.Common.{length, sym, arith, below_more}
 use Rattle.std.proofs.lemmas.Bool.{and_from, and_left, and_right, cond-true, cond-false, not_from_true, not_from_false}
-use Rattle.clauses.specs.Ranks.{rank_at, stood_by}
-use Rattle.clauses.specs.Candidates.{when, move_fails, first_move_on}
+use Rattle.clauses.specs.Candidates.{move_fails, first_move_on}
 use Rattle.clauses.proofs.Firsts.{first_is, first_none}
 use Rattle.clauses.proofs.Reading.{rows_fit}
 use Rattle.clauses.proofs.moves.failing_on.Goals as goal

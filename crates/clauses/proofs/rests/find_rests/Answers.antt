@@ -1,7 +1,7 @@
-use Rattle.std.proofs.Common.{◌≡◌, ℕ, ◌+◌, ◌<◌, Bool, true, false, not, ◌&&◌, ◌||◌, sym, refl, ap, ◌∙◌, subst, arith}
-use Rattle.std.proofs.lemmas.Bool.{and_from, and_left, and_right}
+use Rattle.std.proofs.Common.{◌≡◌, ℕ, ◌+◌, Bool, ◌&&◌, ◌||◌, sym, ap, ◌∙◌, subst, arith}
+use Rattle.std.proofs.lemmas.Bool.{and_left}
 use Rattle.lts.specs.Labels.{member}
-use Rattle.lts.specs.Machines.{Machine, some_below, initial}
+use Rattle.lts.specs.Machines.{some_below, initial}
 use Rattle.labels.proofs.Bits.{member_none}
 use Rattle.source.proofs.Masks.{initials_member}
 use Rattle.clauses.specs.Ranks.{reads}

@@ -1,9 +1,9 @@
-use Rattle.std.proofs.Common.{◌≡◌, ℕ, ◌*◌, ◌<◌, ◌≤◌, Bool, true, false, ◌&&◌, eqb, ltb, leb, length, sym, refl, ap, ◌∙◌, subst, ⊎_elim, arith}
+use Rattle.std.proofs.Common.{◌≡◌, ℕ, ◌*◌, Bool, ◌&&◌, eqb, ltb, leb, length, sym, ap, ◌∙◌, ⊎_elim, arith}
 use Rattle.std.proofs.lemmas.Bool.{lt-ltb, le-ltb, le-leb, lt-leb, and_left, and_right, cases_eq, cond-false, ne_eqb}
 use Rattle.source.proofs.Told.{told}
 use Rattle.closure.specs.Sheets.{cells}
 use Rattle.clauses.specs.Ranks.{reads}
-use Rattle.clauses.specs.Uncovered.{uncovered_by, uncovered_in}
+use Rattle.clauses.specs.Uncovered.{uncovered_by}
 use Rattle.clauses.proofs.rests.uncovered.Goals as goal
 
 pub find_uncovered-requires : goal.find_uncovered-requires

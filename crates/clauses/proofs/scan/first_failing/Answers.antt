@@ -1,4 +1,4 @@
-use Rattle.std.proofs.Common.{◌≡◌, ap, ◌∙◌}
+use Rattle.std.proofs.Common.{ap, ◌∙◌}
 use Rattle.lts.specs.Machines.{Machine}
 use Rattle.clauses.specs.Workspaces.{first_in}
 use Rattle.clauses.proofs.Reading.{found_failing}

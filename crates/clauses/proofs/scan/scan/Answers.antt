@@ -1,4 +1,4 @@
-use Rattle.std.proofs.Common.{◌≡◌, ℕ, ◌+◌, ◌-◌, ◌*◌, ◌<◌, ◌≤◌, Bool, List, length, take, drop, Some, None, Option, sym, refl, ap, ◌∙◌, subst, arith}
+use Rattle.std.proofs.Common.{◌≡◌, ℕ, ◌+◌, ◌-◌, ◌*◌, Bool, List, length, take, drop, None, sym, ap, ◌∙◌}
 use Rattle.lts.specs.Machines.{Machine}
 use Rattle.closure.proofs.Parts.{part_end}
 use Rattle.dense.specs.Copies.{meaning}

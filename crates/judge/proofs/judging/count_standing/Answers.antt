@@ -1,4 +1,4 @@
-use Rattle.std.proofs.Common.{◌≡◌, sym, refl, ap, ◌∙◌, arith}
+use Rattle.std.proofs.Common.{sym, ◌∙◌, arith}
 use Rattle.clauses.specs.Ranks.{rank_at}
 use Rattle.clauses.proofs.Reading.{rank_told}
 use Rattle.judge.proofs.Zeros.{zeros_yes, zeros_no, zeros_none}

@@ -1,4 +1,4 @@
-use Rattle.std.proofs.Common.{◌≡◌, ℕ, ◌<◌, ◌≤◌}
+use Rattle.std.proofs.Common.{◌≡◌, ◌≤◌}
 use Rattle.clauses.specs.Ranks.{rank_at}
 use Rattle.judge.specs.Verdicts.{zeros_below}
 use Rattle.judge.proofs.judging.count_standing.Given as goal

@@ -1,5 +1,5 @@
-use Rattle.std.proofs.Common.{◌≡◌, ℕ, List, length, Ok, Result, sym, refl, ap, ◌∙◌, subst, rules}
-use Rattle.lts.specs.Machines.{Machine, Sound}
+use Rattle.std.proofs.Common.{◌≡◌, ℕ, List, length, Ok, Result, sym, ap, ◌∙◌, subst}
+use Rattle.lts.specs.Machines.{Machine}
 use Rattle.source.specs.declared.refusal.Refusal.{Refusal}
 use Rattle.dense.specs.Copies.{meaning}
 use Rattle.ranks.specs.Rounds.{last_round}

@@ -1,4 +1,4 @@
-use Rattle.std.proofs.Common.{◌≡◌, ℕ, suc, ◌+◌, ◌-◌, ◌*◌, ◌<◌, ◌≤◌, List, length, take, drop, Option, sym, refl, ap, ◌∙◌, subst, arith}
+use Rattle.std.proofs.Common.{◌≡◌, ℕ, suc, ◌+◌, ◌-◌, ◌*◌, ◌<◌, List, length, take, drop, Option, sym, ap, ◌∙◌, arith}
 use Rattle.lts.specs.Machines.{Machine}
 use Rattle.dense.specs.Copies.{meaning}
 use Rattle.dense.specs.Sounds.{meaning_sound}
@@ -6,9 +6,8 @@ use Rattle.clauses.specs.Candidates.{first_failing}
 use Rattle.clauses.specs.Workspaces.{stood_in}
 use Rattle.clauses.specs.declared.counterexample.Counterexample.{Counterexample}
 use Rattle.clauses.proofs.Reading.{rank_told, found_failing}
-use Rattle.judge.specs.Verdicts.{start_rank, answer}
-use Rattle.judge.specs.declared.verdict.Answer.{Answer}
-use Rattle.judge.specs.declared.verdict.Answer.TheVariants.{Yes, No}
+use Rattle.judge.specs.Verdicts.{start_rank}
+use Rattle.judge.specs.declared.verdict.Answer.TheVariants.{No}
 use Rattle.judge.proofs.Held.{start_in, read_part, read_start, answer_yes, answer_no, never_none}
 use Rattle.judge.proofs.judging.read_answer.Goals as goal
 

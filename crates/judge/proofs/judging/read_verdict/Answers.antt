@@ -1,14 +1,14 @@
-use Rattle.std.proofs.Common.{◌≡◌, ℕ, suc, ◌+◌, ◌-◌, ◌*◌, ◌<◌, ◌≤◌, List, length, get_or, take, drop, sym, refl, ap, ◌∙◌, subst, mul-le-mul, arith, length-drop}
+use Rattle.std.proofs.Common.{◌≡◌, ℕ, ◌+◌, ◌-◌, ◌*◌, List, length, get_or, take, drop, ap, ◌∙◌, arith, length-drop}
 use Rattle.lts.specs.Machines.{Machine}
 use Rattle.dense.specs.Copies.{meaning}
 use Rattle.dense.specs.Sounds.{meaning_sound}
 use Rattle.clauses.specs.Ranks.{rank_at}
 use Rattle.clauses.specs.Workspaces.{pairs, base}
-use Rattle.clauses.proofs.Reading.{told_here, base_same, pairs_same}
+use Rattle.clauses.proofs.Reading.{told_here, pairs_same}
 use Rattle.ranks.specs.Rounds.{final_ranks}
 use Rattle.ranks.proofs.Running.{pairs_small}
 use Rattle.ranks.proofs.Placed.{part_same}
-use Rattle.judge.specs.Verdicts.{zeros_below, answer, verdict, Holding}
+use Rattle.judge.specs.Verdicts.{zeros_below, answer, verdict}
 use Rattle.judge.specs.declared.verdict.Answer.{Answer}
 use Rattle.judge.specs.declared.verdict.Verdict.{Verdict}
 use Rattle.judge.proofs.Held.{final_at}

@@ -1,4 +1,4 @@
-use Rattle.std.proofs.Common.{◌≡◌, ℕ, ◌<◌, length, ◌∙◌, arith, length-set}
+use Rattle.std.proofs.Common.{◌≡◌, ℕ, ◌<◌, ◌∙◌, arith, length-set}
 use Rattle.clauses.specs.Uncovered.{uncovered_in}
 use Rattle.dense.specs.declared.row.Row.{Row}
 use Rattle.dense.specs.Copies.{meaning}

@@ -1,9 +1,9 @@
-use Rattle.std.proofs.Common.{◌≡◌, ℕ, ◌+◌, ◌-◌, ◌*◌, ◌<◌, ◌≤◌, List, ◌++◌, length, get_or, take, drop, sym, refl, ap, ◌∙◌, subst, arith}
+use Rattle.std.proofs.Common.{◌≡◌, ℕ, ◌+◌, ◌-◌, ◌*◌, ◌<◌, ◌≤◌, List, ◌++◌, length, get_or, take, drop, ap, ◌∙◌, subst, arith}
 use borrow.Rule.Slice.PartMut.{put_mid}
 use Rattle.lts.specs.Machines.{Machine}
 use Rattle.dense.specs.Copies.{meaning}
 use Rattle.closure.specs.Sheets.{closure_sheet, closure_after}
-use Rattle.clauses.specs.Workspaces.{pairs, base, Prepared}
+use Rattle.clauses.specs.Workspaces.{base, Prepared}
 use Rattle.ranks.specs.Rounds.{BesideRanks}
 use Rattle.ranks.specs.Filled.{total}
 use Rattle.ranks.proofs.Placed.{prepared_kept}

@@ -1,9 +1,9 @@
-use Rattle.std.proofs.Common.{◌≡◌, ℕ, ◌+◌, ◌*◌, ◌<◌, ◌≤◌, Bool, true, false, ◌&&◌, eqb, ltb, List, length, sym, refl, ap, ◌∙◌, subst, ⊎_elim, arith}
+use Rattle.std.proofs.Common.{◌≡◌, ℕ, ◌+◌, ◌*◌, Bool, false, ◌&&◌, eqb, ltb, List, sym, refl, ap, ◌∙◌, subst, ⊎_elim, arith}
 use Rattle.std.proofs.lemmas.Bool.{lt-ltb, le-ltb, eq-eqb, ne_eqb, and_from, and_left, and_right, cases_eq}
 use Rattle.dense.specs.Rows.{in_row}
 use Rattle.dense.proofs.Tests.{below_next}
 use Rattle.ranks.specs.Marks.{Marked}
-use Rattle.ranks.proofs.Marking.{put, mark_none, mark_same, mark_more}
+use Rattle.ranks.proofs.Marking.{mark_none, mark_same, mark_more}
 use Rattle.ranks.proofs.marks.mark_row.Goals as goal
 use Rattle.ranks.proofs.marks.mark_row.Goals.{then-has, else-has}
 

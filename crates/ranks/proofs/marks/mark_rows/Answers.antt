@@ -1,5 +1,5 @@
-use Rattle.std.proofs.Common.{◌≡◌, ℕ, suc, ◌+◌, ◌*◌, ◌<◌, ◌≤◌, Bool, true, false, cond, not, ◌&&◌, ◌||◌, eqb, ltb, List, length, sym, refl, ap, ◌∙◌, subst, ⊎_elim, mul-le-mul_right, suc-mul, arith}
-use Rattle.std.proofs.lemmas.Bool.{lt-ltb, le-ltb, ltb-true, eq-eqb, ne_eqb, and_from, and_parts, and_left, and_right, cases_eq, cases_Bool, both_ways, not-true, not-false}
+use Rattle.std.proofs.Common.{◌≡◌, ℕ, suc, ◌+◌, ◌*◌, ◌<◌, ◌≤◌, Bool, true, false, cond, ◌&&◌, ◌||◌, eqb, ltb, List, sym, refl, ap, ◌∙◌, subst, ⊎_elim, mul-le-mul_right, suc-mul, arith}
+use Rattle.std.proofs.lemmas.Bool.{lt-ltb, le-ltb, ltb-true, eq-eqb, ne_eqb, and_from, and_parts, and_left, and_right, cases_eq, not-true, not-false}
 use Rattle.lts.specs.Machines.{some_below}
 use Rattle.lts.specs.Some.{same, some_in, some_out}
 use Rattle.dense.specs.declared.row.Row.{Row}
@@ -7,7 +7,7 @@ use Rattle.dense.specs.Rows.{in_row}
 use Rattle.dense.proofs.Tests.{below_next, adds, adds_none}
 use Rattle.clauses.proofs.Somes.{none_at}
 use Rattle.ranks.specs.Marks.{Marked}
-use Rattle.ranks.specs.Steps.{in_rows, lost}
+use Rattle.ranks.specs.Steps.{lost}
 use Rattle.ranks.proofs.Marking.{mark_none, mark_same, mark_both}
 use Rattle.ranks.proofs.marks.mark_rows.Goals as goal
 use Rattle.ranks.proofs.marks.mark_rows.Goals.{then-not-is_empty, else-not-is_empty}

@@ -1,4 +1,4 @@
-use Rattle.std.proofs.Common.{◌≡◌, ℕ, ◌+◌, ◌*◌, ◌<◌, ◌≤◌, Bool, true, false, not, ◌&&◌, eqb, ltb, List, length, get_or, replicate, sym, refl, ap, ◌∙◌, subst, arith}
+use Rattle.std.proofs.Common.{◌≡◌, ℕ, ◌+◌, ◌*◌, ◌<◌, ◌≤◌, Bool, true, false, ◌&&◌, eqb, ltb, List, get_or, replicate, sym, ap, ◌∙◌, arith}
 use Rattle.std.proofs.lemmas.List.{get_or-replicate}
 use Rattle.std.proofs.lemmas.Bool.{lt-ltb, eq-eqb, both_ways, not-true, not-false}
 use Rattle.lts.specs.Machines.{Machine, some_below}
@@ -7,9 +7,8 @@ use Rattle.dense.specs.declared.row.Row.{Row}
 use Rattle.dense.specs.Copies.{meaning}
 use Rattle.dense.specs.Rows.{in_row, none}
 use Rattle.dense.specs.Sounds.{dense_sound}
-use Rattle.clauses.specs.Workspaces.{pairs}
 use Rattle.clauses.proofs.Reading.{pairs_same}
-use Rattle.ranks.specs.Rounds.{stands, ranks_in, ranks_after}
+use Rattle.ranks.specs.Rounds.{ranks_in, ranks_after}
 use Rattle.ranks.specs.Steps.{in_rows, Covers, Board}
 use Rattle.ranks.proofs.After.{ranks_none, pair_in}
 use Rattle.ranks.proofs.Placed.{prepared_kept}

@@ -1,4 +1,4 @@
-use Rattle.std.proofs.Common.{◌≡◌, ◌-◌, ◌*◌}
+use Rattle.std.proofs.Common.{◌-◌, ◌*◌}
 use Rattle.dense.specs.Copies.{meaning}
 use Rattle.ranks.specs.Rounds.{ranks_in}
 use Rattle.ranks.specs.Steps.{Board}

@@ -1,11 +1,11 @@
-use Rattle.std.proofs.Common.{◌≡◌, ℕ, ◌+◌, ◌*◌, ◌<◌, ◌≤◌, Bool, ◌&&◌, ltb, List, length, sym, refl, ap, ◌∙◌, subst, arith}
+use Rattle.std.proofs.Common.{◌≡◌, ℕ, ◌+◌, ◌*◌, ◌<◌, ◌&&◌, ltb, List, sym, refl, ap, ◌∙◌, subst, arith}
 use Rattle.lts.specs.Machines.{Machine, some_below, each_below, implies}
 use Rattle.dense.specs.declared.row.Row.{Row}
 use Rattle.dense.specs.Copies.{meaning}
 use Rattle.dense.specs.Rows.{in_row}
 use Rattle.clauses.specs.Workspaces.{pairs, base}
 use Rattle.clauses.proofs.Reading.{base_same, pairs_same}
-use Rattle.ranks.specs.Rounds.{ranks_in, strike}
+use Rattle.ranks.specs.Rounds.{ranks_in}
 use Rattle.ranks.specs.Marks.{Marked}
 use Rattle.ranks.specs.Steps.{in_rows, lost, all_answered, Board}
 use Rattle.ranks.proofs.Boards.{more_is, board_next, ranks_next, marked_beside}

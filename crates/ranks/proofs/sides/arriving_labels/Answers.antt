@@ -1,4 +1,4 @@
-use Rattle.std.proofs.Common.{◌≡◌, ℕ, ◌<◌, length, ◌∙◌, arith, length-set}
+use Rattle.std.proofs.Common.{◌≡◌, ℕ, ◌<◌, ◌∙◌, arith, length-set}
 use Rattle.lts.specs.Labels.{member}
 use Rattle.lts.specs.Machines.{some_below}
 use Rattle.labels.specs.declared.LabelSet.{LabelSet}

@@ -1,4 +1,4 @@
-use Rattle.std.proofs.Common.{◌≡◌, ℕ, ◌+◌, ◌-◌, ◌*◌, ◌<◌, ◌≤◌, ◌&&◌, ltb, List, length, take, drop, sym, refl, ap, ◌∙◌, subst, arith, length-drop}
+use Rattle.std.proofs.Common.{◌≡◌, ℕ, ◌-◌, ◌*◌, ◌&&◌, ltb, List, length, take, drop, ap, ◌∙◌, arith}
 use Rattle.dense.specs.Copies.{meaning}
 use Rattle.dense.specs.Sounds.{dense_sound}
 use Rattle.closure.specs.Sheets.{cells}

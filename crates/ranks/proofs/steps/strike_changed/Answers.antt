@@ -1,4 +1,4 @@
-use Rattle.std.proofs.Common.{◌≡◌, ℕ, ◌+◌, ◌<◌, ◌≤◌, Bool, true, false, ◌&&◌, sym, refl, ap, ◌∙◌, subst, arith}
+use Rattle.std.proofs.Common.{ℕ, Bool, ◌&&◌, sym, ap, ◌∙◌}
 use Rattle.lts.specs.Machines.{implies, each_below}
 use Rattle.dense.specs.Copies.{meaning}
 use Rattle.dense.specs.Rows.{in_row}

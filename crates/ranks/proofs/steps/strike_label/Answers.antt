@@ -1,10 +1,10 @@
-use Rattle.std.proofs.Common.{◌≡◌, ℕ, ◌+◌, ◌<◌, ◌≤◌, Bool, true, false, ◌&&◌, ◌||◌, eqb, ltb, length, get_or, set, sym, refl, ap, ◌∙◌, subst, ⊎_elim, arith, length-set, get_or-set_other, get_or-set_same}
+use Rattle.std.proofs.Common.{◌≡◌, ℕ, ◌+◌, ◌<◌, Bool, ◌&&◌, ◌||◌, eqb, length, set, sym, ap, ◌∙◌, subst, ⊎_elim, arith, get_or-set_other, get_or-set_same}
 use Rattle.std.proofs.lemmas.Bool.{cases_eq}
 use Rattle.lts.specs.Machines.{implies, weak_step}
 use Rattle.dense.specs.declared.row.Row.{Row}
 use Rattle.dense.specs.Copies.{meaning}
 use Rattle.dense.specs.Rows.{in_row, none}
-use Rattle.ranks.specs.Steps.{in_rows, steps_into, answered}
+use Rattle.ranks.specs.Steps.{in_rows, answered}
 use Rattle.ranks.proofs.Stepping.{steps_single, kept, kept_none, kept_here, kept_taken, kept_left, kept_other, kept_all, and_one}
 use Rattle.ranks.proofs.steps.strike_label.Goals as goal
 use Rattle.ranks.proofs.steps.strike_label.Goals.{then-has, else-has}

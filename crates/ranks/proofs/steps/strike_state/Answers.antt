@@ -1,5 +1,5 @@
-use Rattle.std.proofs.Common.{◌≡◌, ℕ, ◌+◌, ◌<◌, ◌≤◌, Bool, true, false, ◌&&◌, sym, refl, ap, ◌∙◌, subst, arith}
-use Rattle.lts.specs.Machines.{implies, each_below}
+use Rattle.std.proofs.Common.{Bool, ◌&&◌, sym, ap, ◌∙◌, arith}
+use Rattle.lts.specs.Machines.{implies}
 use Rattle.dense.specs.Copies.{meaning}
 use Rattle.ranks.specs.Steps.{in_rows, steps_into, answered}
 use Rattle.ranks.proofs.Stepping.{each_none, each_more, each_skip, no_step}

@@ -1,14 +1,12 @@
-use Rattle.std.proofs.Common.{◌≡◌, ℕ, ◌+◌, ◌-◌, ◌<◌, ◌≤◌, Bool, true, false, ltb, leb, List, ◌++◌, length, take, drop, Ok, Err, Result, sym, refl, ap, ◌∙◌, subst, arith, length-set, rules}
+use Rattle.std.proofs.Common.{◌≡◌, ◌+◌, ◌-◌, ◌≤◌, true, false, ltb, leb, List, length, Ok, Err, Result, sym, refl, ap, ◌∙◌, subst, arith, length-set, rules}
 use Rattle.std.proofs.lemmas.List.{take-append-drop}
 use Rattle.std.proofs.lemmas.Bool.{le-leb, lt-leb, lt-ltb, le-ltb}
 use Rattle.source.specs.declared.table.Move.{Move}
-use Rattle.table.specs.Table.{Listing, read_text, moves_of, stored_in, summary_of, in_room}
-use Rattle.table.specs.declared.checked.Summary.{Summary}
+use Rattle.table.specs.Table.{Listing, read_text, moves_of, summary_of, in_room}
 use Rattle.table.specs.declared.fault.Fault.{Fault}
 use Rattle.calls.specs.declared.refusal.Refusal.{Refusal}
 use Rattle.calls.specs.declared.request.Reply.{Reply}
-use Rattle.calls.specs.declared.seat.Seat.{Seat}
-use Rattle.calls.specs.Contents.{Contents, places, one_more}
+use Rattle.calls.specs.Contents.{places, one_more}
 use Rattle.calls.specs.Calls.{enter, enter_result}
 use Rattle.house.specs.Stored.{every, seat_in, listings}
 use Rattle.house.specs.Means.{means}

@@ -1,6 +1,5 @@
-use Rattle.std.proofs.Common.{◌≡◌, List, ap, ◌∙◌}
+use Rattle.std.proofs.Common.{List, ap, ◌∙◌}
 use Rattle.source.specs.declared.table.Move.{Move}
-use Rattle.table.specs.Table.{Listing}
 use Rattle.house.proofs.Tables.{part_is}
 use Rattle.house.proofs.house.House.table_at.Goals as goal
 
