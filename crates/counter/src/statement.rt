@@ -1,208 +1,167 @@
-// The statement: each call with what came of it, then the seats, and whether the house can get stuck.
-use crate::script::{Item, Step};
-use crate::whole;
-use crate::words::{Act, Many, Names, Shown};
-use calls::{Pile, Reply, Seat};
-use house::House;
-use judge::verdict::Verdict;
-use labels::NameSet;
-use search::{StuckState, search};
-use source::refusal::Refusal;
-use source::table::Table;
+// The statement: an item for each call, and what they come to at the end.
+use crate::entry::Entry;
+use labels::NAMES;
 use std::io::ErrorKind;
 use std::{fmt, io};
 
-#[derive(Clone, Copy)]
-pub struct Statement<'a> {
-    pub items: &'a [Item],
-    pub replies: &'a [Reply],
-    pub house: &'a House,
+#[derive(Drop)]
+pub enum Item<'a> {
+    // The file that was entered, and what came of its text.
+    Entered(&'a str, Entry),
+    // A file that cannot be read, and why.
+    Unread(&'a str, io::Error),
+    // A line that is no call, with its number.
+    Unclear(u64, &'a str),
 }
 
-impl fmt::Display for Statement<'_> {
+impl fmt::Display for Item<'_> {
     fn fmt<W: fmt::Write>(&self, f: &mut fmt::Formatter<W>) -> fmt::Result {
-        if self.items.is_empty() {
-            return show_usage(f);
-        }
-        let mut replies = self.replies.iter();
-        for item in self.items {
-            match &item.step {
-                Step::Unclear => show_unclear(item, f)?,
-                Step::Unread(error) => show_unread(item, error, f)?,
-                _ => {
-                    writeln!(f, "{}", Shown(item.line.as_slice()))?;
-                    if let Some(reply) = replies.next() {
-                        show_reply(self.house, reply, f)?;
-                    }
+        match self {
+            Item::Entered(file, entry) => {
+                writeln!(f, "enter {}", Shown(file))?;
+                outcome(entry, f)
+            }
+            Item::Unread(file, error) => {
+                writeln!(f, "enter {}", Shown(file))?;
+                match error.kind() {
+                    ErrorKind::NotFound => writeln!(f, "  there is no file {}", Shown(file)),
+                    _ => writeln!(f, "  the file {} cannot be read: {error}", Shown(file)),
                 }
             }
+            Item::Unclear(at, words) => writeln!(f, "line {at} is no call: {}", Shown(words)),
         }
-        writeln!(f)?;
-        for seat in 0..6 {
-            show_seat(self.house, seat, f)?;
-        }
-        show_stuck(self.house, f)
     }
 }
 
-fn show_usage<W: fmt::Write>(f: &mut fmt::Formatter<W>) -> fmt::Result {
-    writeln!(f, "Each line of the input is a call:")?;
-    writeln!(
-        f,
-        "  enter FILE                       reads the table in FILE, and answers its number"
-    )?;
-    writeln!(
-        f,
-        "  seat SEAT TABLE                  puts a table on an empty seat, 0 to 5, as its contract"
-    )?;
-    writeln!(
-        f,
-        "  fit SEAT MODULE HELPER NAMES     fits a table at a seat if it keeps the contract, beside"
-    )?;
-    writeln!(
-        f,
-        "                                   a helper and without the names (each may be -)"
-    )?;
-    writeln!(
-        f,
-        "  unfit SEAT                       takes away what is fitted"
-    )?;
-    write!(f, "  clear SEAT                       empties the seat")
-}
-
-fn show_unclear<W: fmt::Write>(item: &Item, f: &mut fmt::Formatter<W>) -> fmt::Result {
-    writeln!(
-        f,
-        "line {} is no call: {}",
-        item.at,
-        Shown(item.line.as_slice())
-    )
-}
-
-fn show_unread<W: fmt::Write>(
-    item: &Item,
-    error: &io::Error,
-    f: &mut fmt::Formatter<W>,
-) -> fmt::Result {
-    writeln!(f, "{}", Shown(item.line.as_slice()))?;
-    match error.kind() {
-        ErrorKind::NotFound => writeln!(f, "  there is no such file"),
-        _ => writeln!(f, "  the file cannot be read: {error}"),
-    }
-}
-
-fn show_reply<W: fmt::Write>(
-    house: &House,
-    reply: &Reply,
-    f: &mut fmt::Formatter<W>,
-) -> fmt::Result {
-    match reply {
-        Reply::Entered(number) => show_table(house, *number, f),
-        Reply::Fitted(verdict) => show_verdict(verdict, f),
-        Reply::Done => writeln!(f, "  done"),
-        Reply::Refused(refusal) => writeln!(f, "  {refusal}"),
-    }
-}
-
-fn show_table<W: fmt::Write>(house: &House, number: u8, f: &mut fmt::Formatter<W>) -> fmt::Result {
-    let Some(table) = house.table(number) else {
-        return Ok(());
-    };
-    let states = Many(table.states as u64, "state");
-    let moves = Many(table.moves.len() as u64, "move");
-    writeln!(
-        f,
-        "  table {number}: {states}, start {}, {moves}",
-        table.start
-    )?;
-    match stuck_alone(&table) {
-        Some(found) => {
-            let label = Act(found.label);
+fn outcome<W: fmt::Write>(entry: &Entry, f: &mut fmt::Formatter<W>) -> fmt::Result {
+    match entry {
+        Entry::Kept(number, summary, stuck) => {
+            let states = Many(summary.states as u64, "state");
+            let moves = Many(summary.moves as u64, "move");
             writeln!(
                 f,
-                "  alone it can get stuck in state {}, waiting for {label}",
-                found.state
-            )
+                "  table {number}: {states}, start {}, {moves}",
+                summary.start
+            )?;
+            match stuck {
+                Some(found) => writeln!(
+                    f,
+                    "  alone it can get stuck in state {}, waiting for {}",
+                    found.state,
+                    Act(found.label)
+                ),
+                None => writeln!(f, "  alone it cannot get stuck"),
+            }
         }
-        None => writeln!(f, "  alone it cannot get stuck"),
+        Entry::Refused(fault) => writeln!(f, "  {fault}"),
     }
 }
 
-// Where a table can get stuck if nobody answers on any name.
-fn stuck_alone(table: &Table<'_>) -> Option<StuckState> {
-    let mut sheet = [0; 255];
-    match search(table, NameSet(u32::MAX), &mut sheet) {
-        Ok(found) => found,
-        // There is room for any table, and one that is too large has no state to get stuck in.
-        Err(_) => None,
-    }
-}
+// A visible label: `?` or `!` and its name.
+#[derive(Clone, Copy)]
+struct Act(u8);
 
-fn show_verdict<W: fmt::Write>(verdict: &Verdict, f: &mut fmt::Formatter<W>) -> fmt::Result {
-    writeln!(
-        f,
-        "  yes: {} states against {}; {} pairs stand, the last was struck in round {}",
-        verdict.states, verdict.others, verdict.standing, verdict.highest
-    )
-}
-
-fn show_seat<W: fmt::Write>(house: &House, seat: u8, f: &mut fmt::Formatter<W>) -> fmt::Result {
-    match house.at(seat) {
-        None | Some(Seat::Empty) => writeln!(f, "seat {seat}: empty"),
-        Some(Seat::Contract(contract)) => writeln!(
-            f,
-            "seat {seat}: contract {contract}, nothing fitted"
-        ),
-        Some(Seat::Fitted(contract, pile)) => {
-            write!(f, "seat {seat}: contract {contract}, fitted ")?;
-            show_pile(pile, f)
+impl fmt::Display for Act {
+    fn fmt<W: fmt::Write>(&self, f: &mut fmt::Formatter<W>) -> fmt::Result {
+        let label = self.0;
+        if label < NAMES {
+            write!(f, "?{label}")
+        } else {
+            write!(f, "!{}", label - NAMES)
         }
     }
 }
 
-fn show_pile<W: fmt::Write>(pile: Pile, f: &mut fmt::Formatter<W>) -> fmt::Result {
-    write!(f, "table {}", pile.table)?;
-    if let Some(helper) = pile.helper {
-        write!(f, " beside table {helper}")?;
+// A number of things, in the singular or the plural.
+#[derive(Clone, Copy)]
+struct Many(u64, &'static str);
+
+impl fmt::Display for Many {
+    fn fmt<W: fmt::Write>(&self, f: &mut fmt::Formatter<W>) -> fmt::Result {
+        let Many(many, thing) = *self;
+        let ending = if many == 1 { "" } else { "s" };
+        write!(f, "{many} {thing}{ending}")
     }
-    if pile.hidden.0 != 0 {
-        write!(f, ", without the names {}", Names(pile.hidden))?;
-    }
-    writeln!(f)
 }
 
-// On the names that lie between its seats, and then on all names.
-fn show_stuck<W: fmt::Write>(house: &House, f: &mut fmt::Formatter<W>) -> fmt::Result {
-    let between = whole::names_between(house);
-    write!(
-        f,
-        "beside nobody, on the names between its seats ({}): ",
-        Names(between)
-    )?;
-    show_found(whole::stuck_in(house, between), f)?;
-    writeln!(f)?;
-    write!(f, "beside nobody, on all names: ")?;
-    show_found(whole::stuck_in(house, NameSet(u32::MAX)), f)
+// The most characters that are shown of a name or a line.
+const SHOWN: usize = 80;
+
+// Text of others, cut where it is long and without what would move the cursor.
+#[derive(Clone, Copy)]
+struct Shown<'a>(&'a str);
+
+impl fmt::Display for Shown<'_> {
+    fn fmt<W: fmt::Write>(&self, f: &mut fmt::Formatter<W>) -> fmt::Result {
+        for letter in self.0.chars().take(SHOWN) {
+            f.write_char(if letter.is_control() { '?' } else { letter })?;
+        }
+        if self.0.len() > SHOWN && self.0.chars().nth(SHOWN).is_some() {
+            f.write_str("..")?;
+        }
+        Ok(())
+    }
 }
 
-fn show_found<W: fmt::Write>(
-    found: Result<Option<StuckState>, Refusal>,
-    f: &mut fmt::Formatter<W>,
-) -> fmt::Result {
-    match found {
-        Ok(None) => write!(f, "the house cannot get stuck"),
-        Ok(Some(stuck)) => {
-            let label = Act(stuck.label);
-            write!(
+// What all the calls come to.
+#[derive(Clone, Copy)]
+pub struct Totals {
+    kept: u64,
+    refused: u64,
+    unread: u64,
+    unclear: u64,
+}
+
+impl Totals {
+    pub fn new() -> Totals {
+        Totals {
+            kept: 0,
+            refused: 0,
+            unread: 0,
+            unclear: 0,
+        }
+    }
+
+    // Counts what leaves no trace at the desk.
+    pub fn count(&mut self, item: &Item<'_>) {
+        match item {
+            Item::Entered(..) => {}
+            Item::Unread(..) => self.unread = self.unread.saturating_add(1),
+            Item::Unclear(..) => self.unclear = self.unclear.saturating_add(1),
+        }
+    }
+
+    pub fn close(&mut self, kept: usize, refused: u64) {
+        self.kept = kept as u64;
+        self.refused = refused;
+    }
+
+    fn is_empty(&self) -> bool {
+        self.kept == 0 && self.refused == 0 && self.unread == 0 && self.unclear == 0
+    }
+}
+
+impl fmt::Display for Totals {
+    fn fmt<W: fmt::Write>(&self, f: &mut fmt::Formatter<W>) -> fmt::Result {
+        if self.is_empty() {
+            writeln!(f, "Each line of the input is a call: enter FILE")?;
+            return writeln!(
                 f,
-                "the house can get stuck in state {}, waiting for {label}",
-                stuck.state
-            )
+                "It reads the table in FILE and keeps it, or says why the text is refused."
+            );
         }
-        Err(refusal) => write!(
-            f,
-            "not searched (refusal {}): the house has more than 255 states",
-            refusal.number()
-        ),
+        writeln!(f)?;
+        writeln!(f, "texts kept: {}, refused: {}", self.kept, self.refused)?;
+        if self.unread > 0 {
+            writeln!(f, "files that could not be read: {}", self.unread)?;
+        }
+        if self.unclear > 0 {
+            writeln!(
+                f,
+                "lines that are no call (a call is: enter FILE): {}",
+                self.unclear
+            )?;
+        }
+        Ok(())
     }
 }

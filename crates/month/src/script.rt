@@ -30,10 +30,10 @@ pub struct Item {
 }
 
 pub fn read(rt: &HostRuntime) -> anyhow::Result<Vec<Item>> {
-    let heap = rt.alloc();
-    let mut items = Vec::new(heap);
+    let alloc = rt.alloc();
+    let mut items = Vec::new(alloc);
     let mut at = 0u64;
-    for line in BufReader::new(heap, rt.stdin())?.split(heap, b'\n') {
+    for line in BufReader::new(alloc, rt.stdin())?.split(alloc, b'\n') {
         let line = line?;
         at = at.saturating_add(1);
         if let Some(step) = step_of(rt, line.as_slice()) {
@@ -76,8 +76,8 @@ fn called(rt: &HostRuntime, command: Command<'_>) -> Step {
 }
 
 // The calls, in order; a fit is lent as much workspace as any verdict wants.
-pub fn requests<'a>(heap: Global, items: &'a [Item]) -> Result<Vec<Request<'a>>, AllocError> {
-    let mut requests = Vec::new(heap);
+pub fn requests<'a>(alloc: Global, items: &'a [Item]) -> Result<Vec<Request<'a>>, AllocError> {
+    let mut requests = Vec::new(alloc);
     for item in items {
         if let Some(request) = request_of(&item.step) {
             requests.push(request)?;

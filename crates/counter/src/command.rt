@@ -1,0 +1,45 @@
+// What a line of the input asks for.
+ghost use Rattle.std.specs.Prelude.{◌⊎◌, [], ◌∷◌, MatchOption};
+ghost use Rattle.std.specs.Str.Iter.{split_whitespace_rest};
+ghost use Rattle.counter.specs.Lines.{Says, Words, Two};
+
+use std::str::SplitWhitespace;
+
+#[derive(Clone, Copy)]
+pub enum Command<'a> {
+    // Read the table in this file, and keep it.
+    Enter(&'a str),
+}
+
+#[derive(Clone, Copy)]
+pub enum Line<'a> {
+    Blank,
+    Call(Command<'a>),
+    Unclear,
+}
+
+// Words are parted by white space; a call is its name and what it is given.
+pub fn parse<'a>(line: &'a str) -> Line<'a>
+    ensures { Says line.now result }
+{
+    let mut words = line.split_whitespace();
+    match words.next() {
+        None => Line::Blank,
+        Some("enter") => match only(words) {
+            Some(file) => Line::Call(Command::Enter(file)),
+            None => Line::Unclear,
+        },
+        Some(_) => Line::Unclear,
+    }
+}
+
+// The one word that is left, if there is just one.
+fn only<'a>(mut words: SplitWhitespace<'a>) -> Option<&'a str>
+    ensures { MatchOption result (Words (split_whitespace_rest words.entry) [] ⊎ Two (split_whitespace_rest words.entry)) (λ w. Words (split_whitespace_rest words.entry) (w.now ∷ [])) }
+{
+    let word = words.next()?;
+    match words.next() {
+        None => Some(word),
+        Some(_) => None,
+    }
+}
