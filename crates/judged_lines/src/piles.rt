@@ -9,32 +9,32 @@ use source::source::Source;
 use source::table::Table;
 use std::alloc::{AllocError, Global};
 
-pub fn answer_to(heap: Global, line: &[u8]) -> Result<Answer, AllocError> {
+pub fn answer_to(alloc: Global, line: &[u8]) -> Result<Answer, AllocError> {
     let Some(case) = Case::parse(line) else {
         return Ok(Answer::Unclear);
     };
-    let Some(first) = Listed::read(heap, case.texts[0])? else {
+    let Some(first) = Listed::read(alloc, case.texts[0])? else {
         return Ok(Answer::Unread);
     };
-    let Some(contract) = Listed::read(heap, case.texts[2])? else {
+    let Some(contract) = Listed::read(alloc, case.texts[2])? else {
         return Ok(Answer::Unread);
     };
     let names = case.hidden;
     let inner = first.table();
     match case.shape {
-        Shape::Plain => judged(heap, &case, &inner, contract.table()),
-        Shape::Hidden => judged(heap, &case, &Restrict { names, inner }, contract.table()),
-        _ => beside(heap, &case, inner, contract.table()),
+        Shape::Plain => judged(alloc, &case, &inner, contract.table()),
+        Shape::Hidden => judged(alloc, &case, &Restrict { names, inner }, contract.table()),
+        _ => beside(alloc, &case, inner, contract.table()),
     }
 }
 
 fn beside(
-    heap: Global,
+    alloc: Global,
     case: &Case<'_>,
     left: Table<'_>,
     contract: Table<'_>,
 ) -> Result<Answer, AllocError> {
-    let Some(second) = Listed::read(heap, case.texts[1])? else {
+    let Some(second) = Listed::read(alloc, case.texts[1])? else {
         return Ok(Answer::Unread);
     };
     let pair = Parallel {
@@ -42,31 +42,31 @@ fn beside(
         right: second.table(),
     };
     match case.shape {
-        Shape::Plain | Shape::Hidden | Shape::Pair => judged(heap, case, &pair, contract),
-        Shape::HiddenPair => hidden(heap, case, pair, contract),
-        Shape::RenamedPair => renamed(heap, case, pair, contract),
+        Shape::Plain | Shape::Hidden | Shape::Pair => judged(alloc, case, &pair, contract),
+        Shape::HiddenPair => hidden(alloc, case, pair, contract),
+        Shape::RenamedPair => renamed(alloc, case, pair, contract),
     }
 }
 
 fn hidden<S: Source + Drop>(
-    heap: Global,
+    alloc: Global,
     case: &Case<'_>,
     inner: S,
     contract: Table<'_>,
 ) -> Result<Answer, AllocError> {
     let names = case.hidden;
-    judged(heap, case, &Restrict { names, inner }, contract)
+    judged(alloc, case, &Restrict { names, inner }, contract)
 }
 
 fn renamed<S: Source + Drop>(
-    heap: Global,
+    alloc: Global,
     case: &Case<'_>,
     inner: S,
     contract: Table<'_>,
 ) -> Result<Answer, AllocError> {
     let names = case.hidden;
     match Relabel::new(backwards(), Restrict { names, inner }) {
-        Ok(module) => judged(heap, case, &module, contract),
+        Ok(module) => judged(alloc, case, &module, contract),
         Err(_) => Ok(Answer::Unread),
     }
 }
@@ -81,10 +81,10 @@ fn backwards() -> [u8; 32] {
 }
 
 fn judged<S: Source>(
-    heap: Global,
+    alloc: Global,
     case: &Case<'_>,
     module: &S,
     contract: Table<'_>,
 ) -> Result<Answer, AllocError> {
-    Ok(Answer::Judged(Judged::of(heap, module, &contract, case.room)?))
+    Ok(Answer::Judged(Judged::of(alloc, module, &contract, case.room)?))
 }

@@ -31,14 +31,14 @@ pub struct Judged {
 
 impl Judged {
     pub fn of<P: Source, Q: Source>(
-        heap: Global,
+        alloc: Global,
         module: &P,
         contract: &Q,
         room: u32,
     ) -> Result<Judged, AllocError>
         ensures { IfOk result (λ j. j.verdict ≡ judged (P.Source.means «module».now) (Q.Source.means contract.now) room) }
     {
-        let mut workspace = vec![in heap; UNTOUCHED; room as usize]?;
+        let mut workspace = vec![in alloc; UNTOUCHED; room as usize]?;
         let verdict = judge::<EveryPair, P, Q>(module, contract, workspace.as_mut_slice());
         Ok(Judged { verdict, workspace })
     }
