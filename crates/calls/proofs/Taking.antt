@@ -1,6 +1,6 @@
 -- Where a call is taken, none of its tests fails; and a call that does what the definitions say goes on the history.
 use Rattle.std.proofs.Common.{◌≡◌, ℕ, Bool, true, false, cond, List, [], ◌∷◌, Ok, Err, Result, sym, refl, ap, ◌∙◌, subst, ⊎_elim, arith}
-use Rattle.std.specs.List.{AllByRecursion as All}
+use Rattle.std.specs.List.{AllByRecursion}
 use Rattle.std.proofs.lemmas.Bool.{true≢false, cases_Bool, cond-true, cond-false}
 use Rattle.calls.specs.declared.refusal.Refusal.{Refusal}
 use Rattle.calls.specs.declared.request.Reply.{Reply}
@@ -9,7 +9,7 @@ use Rattle.calls.specs.Calls.{Call, Test, unless_failed, replied, is_refused, re
 use Rattle.calls.specs.Histories.{Leaves, refused, taken, GoesOn}
 
 pub passed : {A : Type 0} (f : A → Reply) (x : Result A Refusal) (ts : List Test) →
-    is_refused (replied f (unless_failed ts Err x)) ≡ false → All (λ t. t.fails ≡ false) ts × (is_refused (replied f x) ≡ false)
+    is_refused (replied f (unless_failed ts Err x)) ≡ false → AllByRecursion (λ t. t.fails ≡ false) ts × (is_refused (replied f x) ≡ false)
 passed f x [] e = (tt, e)
 passed f x (t ∷ ts) e =
     let r = first t.fails e in
@@ -22,11 +22,11 @@ passed f x (t ∷ ts) e =
     first false e = (refl, e)
 
 -- where no test fails, what is left is answered; and where one fails first, its refusal
-pub skipped : {A : Type 0} (ts : List Test) → All (λ t. t.fails ≡ false) ts → (f : Refusal → A) (x : A) → unless_failed ts f x ≡ x
+pub skipped : {A : Type 0} (ts : List Test) → AllByRecursion (λ t. t.fails ≡ false) ts → (f : Refusal → A) (x : A) → unless_failed ts f x ≡ x
 skipped [] p f x = refl
 skipped (t ∷ ts) p f x = cond-false t.fails (f t.with_this) (unless_failed ts f x) p.0 ∙ skipped ts p.1 f x
 
-pub all_pass : {A : Type 0} (ts : List Test) (x a : A) → Ok a ≡ unless_failed ts Err (Ok x) → All (λ t. t.fails ≡ false) ts × (a ≡ x)
+pub all_pass : {A : Type 0} (ts : List Test) (x a : A) → Ok a ≡ unless_failed ts Err (Ok x) → AllByRecursion (λ t. t.fails ≡ false) ts × (a ≡ x)
 all_pass [] x a e = (tt, cc)
 all_pass {A} (t ∷ ts) x a e =
     let r = first t.fails e in

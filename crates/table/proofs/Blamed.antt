@@ -1,5 +1,5 @@
 use Rattle.std.proofs.Common.{◌≡◌, ℕ, suc, ◌+◌, ◌<◌, ◌≤◌, eqb, ltb, ◌⊎◌, List, [], ◌∷◌, ◌++◌, length, Ok, Err, sym, refl, ap, ◌∙◌, subst, inl, inr, arith}
-use Rattle.std.specs.List.{AllByRecursion as All}
+use Rattle.std.specs.List.{AllByRecursion}
 use Rattle.std.proofs.lemmas.List.{append_assoc}
 use Rattle.std.proofs.lemmas.Bool.{cases_Bool, ltb-true, ltb-false, lt-ltb, eqb-false}
 use Rattle.table.specs.declared.fault.Fault.{Fault}
@@ -17,12 +17,12 @@ use Rattle.table.proofs.Law.{rows, listing_past}
 use Rattle.table.proofs.Refused.{move_err, head_err, move_refused, head_refused}
 
 -- no byte b stands in the pieces between the bytes b
-free_onto_first : (b x : ℕ) (ps : List (List ℕ)) → (x ≡ b → ⊥) → All (Free b) ps → All (Free b) (onto_first x ps)
+free_onto_first : (b x : ℕ) (ps : List (List ℕ)) → (x ≡ b → ⊥) → AllByRecursion (Free b) ps → AllByRecursion (Free b) (onto_first x ps)
 free_onto_first b x [] n h = ((n, tt), tt)
 free_onto_first b x (p ∷ ps) n h = ((n, h.0), h.1)
 
 -- no piece between the bytes b has one
-pieces_free : (b : ℕ) (xs : List ℕ) → All (Free b) (pieces b xs)
+pieces_free : (b : ℕ) (xs : List ℕ) → AllByRecursion (Free b) (pieces b xs)
 pieces_free b [] = (tt, tt)
 pieces_free b (x ∷ xs) =
     elim (cases_Bool (eqb x b)) [
@@ -36,7 +36,7 @@ Here n k text f = ((0 < length text) × Free 10 text × (f ≡ Fault.Unended k))
 
 -- the same after some moves
 abbrev Blame : ℕ → ℕ → List ℕ → Fault → Type 0
-Blame n k text f = (ms : List Move) × (r : List ℕ) × All (WellFormedMove n) ms × (text ≡ rows ms ++ r) × Here n (k + length ms) r f
+Blame n k text f = (ms : List Move) × (r : List ℕ) × AllByRecursion (WellFormedMove n) ms × (text ≡ rows ms ++ r) × Here n (k + length ms) r f
 
 -- a line in front of others, in the form that writing has
 in_front : (l fields more rest : List ℕ) → l ≡ fields → l ++ 10 ∷ (more ++ rest) ≡ ((fields ++ 10 ∷ []) ++ more) ++ rest
@@ -46,7 +46,7 @@ in_front l fields more rest e =
     sym (append_assoc (fields ++ 10 ∷ []) more rest)
 
 -- move lines that are refused have a first fault
-moves_blame : (n k : ℕ) (p : List ℕ) (ps : List (List ℕ)) (f : Fault) → 0 < n → n ≤ 256 → All (Free 10) (p ∷ ps) → moves_from n k (p ∷ ps) ≡ Err f → Blame n k (parted 10 (p ∷ ps)) f
+moves_blame : (n k : ℕ) (p : List ℕ) (ps : List (List ℕ)) (f : Fault) → 0 < n → n ≤ 256 → AllByRecursion (Free 10) (p ∷ ps) → moves_from n k (p ∷ ps) ≡ Err f → Blame n k (parted 10 (p ∷ ps)) f
 moves_blame n k [] [] f z l fr h = no_ok f [] h
 moves_blame n k (x ∷ p) [] f z l fr h =
     let e : k + 0 ≡ k = omega arith in
@@ -70,7 +70,7 @@ moves_blame n k p (q ∷ ps) f z l fr h =
     more x xs = x ∷ xs
 
 -- lines that are refused have a first fault
-listing_blame : (text p : List ℕ) (ps : List (List ℕ)) (f : Fault) → text ≡ parted 10 (p ∷ ps) → All (Free 10) (p ∷ ps) → listing_from 1 (p ∷ ps) ≡ Err f → Faulty text f
+listing_blame : (text p : List ℕ) (ps : List (List ℕ)) (f : Fault) → text ≡ parted 10 (p ∷ ps) → AllByRecursion (Free 10) (p ∷ ps) → listing_from 1 (p ∷ ps) ≡ Err f → Faulty text f
 listing_blame text p [] f e fr h = subst (Faulty text) (same_fault {A = Listing} (Fault.Unended 1) f h) (Faulty.no_line (subst (Free 10) (sym e) fr.0))
 listing_blame text p (q ∷ ps) f e fr h =
     elim (then_err (head_line 1 (pieces 44 p)) (λ u. and_then (moves_from u.states (1 + 1) (q ∷ ps)) (λ ms. Ok (with_moves u ms))) f h) [
@@ -97,7 +97,7 @@ there text f h =
       | inr b ↦
           let p = pieces_some 10 text in
           let h' : listing_from 1 (pieces 10 text) ≡ Err f = rw b at h in
-          inr (ltb-false 40960 (length text) b, listing_blame text p.0 p.1 f (sym (parted_pieces 10 text) ∙ ap (parted 10) p.2) (subst (All (Free 10)) p.2 (pieces_free 10 text)) (ap (listing_from 1) (sym p.2) ∙ h'))
+          inr (ltb-false 40960 (length text) b, listing_blame text p.0 p.1 f (sym (parted_pieces 10 text) ∙ ap (parted 10) p.2) (subst (AllByRecursion (Free 10)) p.2 (pieces_free 10 text)) (ap (listing_from 1) (sym p.2) ∙ h'))
     ]
 
 -- a rest that is refused, after a listing that is written

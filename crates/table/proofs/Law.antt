@@ -1,5 +1,5 @@
 use Rattle.std.proofs.Common.{◌≡◌, ℕ, suc, ◌+◌, ◌-◌, ◌<◌, ◌≤◌, ltb, List, [], ◌∷◌, ◌++◌, length, Ok, Err, codes, decimal, Result, sym, refl, ap, ◌∙◌, subst, inl, inr, arith}
-use Rattle.std.specs.List.{flat_map, AllByRecursion as All}
+use Rattle.std.specs.List.{flat_map, AllByRecursion}
 use Rattle.std.proofs.lemmas.List.{append_assoc, append-nil}
 use Rattle.std.proofs.lemmas.Bool.{cases_Bool, ltb-false}
 use Rattle.table.specs.declared.fault.Fault.{Fault}
@@ -41,21 +41,21 @@ free_name b l h n =
     ]
 
 -- the same of all fields of a move
-free_move : (b n : ℕ) (x : Move) → b < 48 → (b ≡ 33 → ⊥) → (b ≡ 45 → ⊥) → n ≤ 256 → WellFormedMove n x → All (Free b) (move_fields x)
+free_move : (b n : ℕ) (x : Move) → b < 48 → (b ≡ 33 → ⊥) → (b ≡ 45 → ⊥) → n ≤ 256 → WellFormedMove n x → AllByRecursion (Free b) (move_fields x)
 free_move b n x h y z l f = (
   ((λ e. omega arith), ((λ e. omega arith), ((λ e. omega arith), ((λ e. omega arith), tt)))),
   (free_decimal b x.from h (omega arith), (free_way b x.label h y z, (free_name b x.label h f.1, (free_decimal b x.to h (omega arith), tt)))),
 )
 
 -- the same of all fields of a first line
-free_head : (b n s : ℕ) → b < 48 → n < 256 → s < n → All (Free b) (head_fields n s)
+free_head : (b n s : ℕ) → b < 48 → n < 256 → s < n → AllByRecursion (Free b) (head_fields n s)
 free_head b n s h l m = (
   ((λ e. omega arith), ((λ e. omega arith), ((λ e. omega arith), ((λ e. omega arith), ((λ e. omega arith), tt))))),
   (free_decimal b n h l, (free_decimal b s h (omega arith), tt)),
 )
 
 -- a written line in front of a text
-pieces_line : (f : List ℕ) (fs : List (List ℕ)) (xs : List ℕ) → All (Free 10) (f ∷ fs) → pieces 10 (written_line (f ∷ fs) ++ xs) ≡ parted 44 (f ∷ fs) ∷ pieces 10 xs
+pieces_line : (f : List ℕ) (fs : List (List ℕ)) (xs : List ℕ) → AllByRecursion (Free 10) (f ∷ fs) → pieces 10 (written_line (f ∷ fs) ++ xs) ≡ parted 44 (f ∷ fs) ∷ pieces 10 xs
 pieces_line f fs xs h =
     ap (pieces 10) (append_assoc (parted 44 (f ∷ fs)) (10 ∷ []) xs) ∙
     pieces_past 10 (parted 44 (f ∷ fs)) xs (free_parted 10 44 (f ∷ fs) (λ e. omega arith) h)
@@ -84,7 +84,7 @@ listing_cons : (l xs : List ℕ) (u : Head) → head_line 1 (pieces 44 l) ≡ Ok
 listing_cons l xs u h = let p = pieces_some 10 xs in rw (p.2, h)
 
 -- moves that are written are read, and then what stands behind them
-moves_past : (n k : ℕ) (ms : List Move) (behind : List ℕ) → n ≤ 256 → All (WellFormedMove n) ms → moves_from n k (pieces 10 (rows ms ++ behind)) ≡ and_then (moves_from n (k + length ms) (pieces 10 behind)) (λ ys. Ok (ms ++ ys))
+moves_past : (n k : ℕ) (ms : List Move) (behind : List ℕ) → n ≤ 256 → AllByRecursion (WellFormedMove n) ms → moves_from n k (pieces 10 (rows ms ++ behind)) ≡ and_then (moves_from n (k + length ms) (pieces 10 behind)) (λ ys. Ok (ms ++ ys))
 moves_past n k [] behind l h =
     let e : k + 0 ≡ k = omega arith in
     ap (λ j. moves_from n j (pieces 10 behind)) (sym e) ∙ then_same (moves_from n (k + 0) (pieces 10 behind))
@@ -122,9 +122,9 @@ top_from t f =
     ap (λ (ys : List ℕ). listing_from 1 (pieces 10 ys)) (sym (append-nil (write t))) ∙ listing_past t [] f ∙ ap (λ (ys : List Move). Ok (with_moves u ys)) (append-nil t.moves)
 
 -- move lines that are read are the moves written
-moves_ok : (n k : ℕ) (ps : List (List ℕ)) (ms : List Move) → 0 < n → n ≤ 256 → moves_from n k ps ≡ Ok ms → All (WellFormedMove n) ms × (parted 10 ps ≡ rows ms)
+moves_ok : (n k : ℕ) (ps : List (List ℕ)) (ms : List Move) → 0 < n → n ≤ 256 → moves_from n k ps ≡ Ok ms → AllByRecursion (WellFormedMove n) ms × (parted 10 ps ≡ rows ms)
 moves_ok n k [] ms z l h = no_err (Fault.Unended k) ms h
-moves_ok n k ([] ∷ []) ms z l h = let e : [] ≡ ms = cc in subst (λ (ys : List Move). All (WellFormedMove n) ys × ([] ≡ rows ys)) e (tt, refl)
+moves_ok n k ([] ∷ []) ms z l h = let e : [] ≡ ms = cc in subst (λ (ys : List Move). AllByRecursion (WellFormedMove n) ys × ([] ≡ rows ys)) e (tt, refl)
 moves_ok n k ((b ∷ bs) ∷ []) ms z l h = no_err (Fault.Unended k) ms h
 moves_ok n k (p ∷ q ∷ ps) ms z l h =
     let a = then_ok (move_line n k (pieces 44 p)) (λ x. and_then (moves_from n (k + 1) (q ∷ ps)) (λ xs. Ok (x ∷ xs))) ms h in
@@ -136,7 +136,7 @@ moves_ok n k (p ∷ q ∷ ps) ms z l h =
     let one : p ≡ parted 44 (move_fields a.0) = sym (parted_pieces 44 p) ∙ ap (parted 44) m.1 in
     let text : p ++ 10 ∷ parted 10 (q ∷ ps) ≡ rows (a.0 ∷ b.0) =
     ap (λ (ys : List ℕ). p ++ 10 ∷ ys) r.1 ∙ ap (λ (ys : List ℕ). ys ++ 10 ∷ rows b.0) one ∙ sym (append_assoc (parted 44 (move_fields a.0)) (10 ∷ []) (rows b.0)) in
-    subst (λ (ys : List Move). All (WellFormedMove n) ys × (p ++ 10 ∷ parted 10 (q ∷ ps) ≡ rows ys)) e ((m.0, r.0), text)
+    subst (λ (ys : List Move). AllByRecursion (WellFormedMove n) ys × (p ++ 10 ∷ parted 10 (q ∷ ps) ≡ rows ys)) e ((m.0, r.0), text)
 
 -- lines that are read are the listing written
 top_ok : (k : ℕ) (ps : List (List ℕ)) (t : Listing) → listing_from k ps ≡ Ok t → WellFormed t × (parted 10 ps ≡ write t)

@@ -1,5 +1,5 @@
 use Rattle.std.proofs.Common.{◌≡◌, ℕ, ◌<◌, true, eqb, List, [], ◌∷◌, sym, refl, ap, ◌∙◌, inl, inr, arith}
-use Rattle.std.specs.List.{AllByRecursion as All}
+use Rattle.std.specs.List.{AllByRecursion}
 use Rattle.std.specs.Char.{is_ascii_digit}
 use Rattle.std.specs.Str.{all_ascii_digits}
 use Rattle.std.proofs.ByRecursion.{All-append}
@@ -28,12 +28,12 @@ parted_pieces b (x ∷ xs) =
     ]
 
 -- parts with no byte b in them, parted by b, are the pieces
-pub pieces_parted : (b : ℕ) (p : List ℕ) (ps : List (List ℕ)) → All (Free b) (p ∷ ps) → pieces b (parted b (p ∷ ps)) ≡ p ∷ ps
+pub pieces_parted : (b : ℕ) (p : List ℕ) (ps : List (List ℕ)) → AllByRecursion (Free b) (p ∷ ps) → pieces b (parted b (p ∷ ps)) ≡ p ∷ ps
 pieces_parted b p [] h = pieces_last b p h.0
 pieces_parted b p (q ∷ ps) h = pieces_past b p (parted b (q ∷ ps)) h.0 ∙ ap (λ (qs : List (List ℕ)). p ∷ qs) (pieces_parted b q ps h.1)
 
 -- no byte b in parts, nor in them parted by another byte
-pub free_parted : (b c : ℕ) (ps : List (List ℕ)) → (c ≡ b → ⊥) → All (Free b) ps → Free b (parted c ps)
+pub free_parted : (b c : ℕ) (ps : List (List ℕ)) → (c ≡ b → ⊥) → AllByRecursion (Free b) ps → Free b (parted c ps)
 free_parted b c [] n h = tt
 free_parted b c (p ∷ []) n h = h.0
 free_parted b c (p ∷ q ∷ ps) n h = All-append (λ x. x ≡ b → ⊥) p (c ∷ parted c (q ∷ ps)) h.0 (n, free_parted b c (q ∷ ps) n h.1)

@@ -1,5 +1,5 @@
 use Rattle.std.proofs.Common.{◌≡◌, ℕ, zero, suc, ◌+◌, ◌-◌, ◌<◌, ◌≤◌, cond, ltb, List, [], ◌∷◌, ◌++◌, map, length, take, set, sym, ap, ◌∙◌, arith}
-use Rattle.std.specs.List.{AllByRecursion as All}
+use Rattle.std.specs.List.{AllByRecursion}
 use Rattle.std.proofs.lemmas.List.{append_assoc, take_more_set, map_push, take_all}
 use Rattle.std.proofs.ByRecursion.{All-push}
 use Rattle.std.proofs.lemmas.Bool.{lt-ltb, le-ltb}
@@ -19,7 +19,7 @@ take_first (suc n) x xs h = let e : suc n - 1 ≡ n = omega arith in ap (λ k. x
 -- what a turn of the loop over the fields adds
 module _ (text : List ℕ) (places : List Place) (many : ℕ) (p : Place) (room : many < length places) where
   -- one more place in the text
-  pub within_more : All (Within text) (take many places) → Within text p → All (Within text) (take (many + 1) (set places many p))
+  pub within_more : AllByRecursion (Within text) (take many places) → Within text p → AllByRecursion (Within text) (take (many + 1) (set places many p))
   within_more h w = rw (take_more_set places many p room) (All-push (Within text) (take many places) p h w)
 
   -- one more part

@@ -1,5 +1,5 @@
 use Rattle.std.proofs.Common.{◌≡◌, ℕ, zero, suc, ◌-◌, List, [], ◌∷◌, map, length, get_or, take, drop, Err, sym, refl, ap, ◌∙◌, subst, arith}
-use Rattle.std.specs.List.{AllByRecursion as All}
+use Rattle.std.specs.List.{AllByRecursion}
 use Rattle.table.specs.declared.line.Stage.{Stage}
 use Rattle.table.specs.declared.line.Stage.TheVariants.{BeforeHead, AfterHead}
 use Rattle.table.specs.declared.fault.Fault.{Fault}
@@ -81,9 +81,9 @@ line_by_places f d (AfterHead t) k (x ∷ xs) (suc n) w fs e =
     rw (a, h)
 
 -- what holds of all places holds of the first and of the others
-pub all_places : {X : Type 0} (P : X → Type 0) (f : X → List ℕ) (d : X) (xs : List X) (many : ℕ) (w : List ℕ) (fs : List (List ℕ)) → map f (take many xs) ≡ w ∷ fs → All P (take many xs) → P (get_or xs 0 d) × All P (take (many - 1) (drop 1 xs))
+pub all_places : {X : Type 0} (P : X → Type 0) (f : X → List ℕ) (d : X) (xs : List X) (many : ℕ) (w : List ℕ) (fs : List (List ℕ)) → map f (take many xs) ≡ w ∷ fs → AllByRecursion P (take many xs) → P (get_or xs 0 d) × AllByRecursion P (take (many - 1) (drop 1 xs))
 all_places P f d xs zero w fs e h = let z : ◌≡◌ {A = ℕ} 0 1 = cc in absurd (omega arith)
 all_places P f d [] (suc n) w fs e h = let z : ◌≡◌ {A = ℕ} 0 1 = cc in absurd (omega arith)
 all_places P f d (x ∷ xs) (suc n) w fs e h =
     let j : suc n - 1 ≡ n = omega arith in
-    (h.0, subst (λ i. All P (take i xs)) (sym j) h.1)
+    (h.0, subst (λ i. AllByRecursion P (take i xs)) (sym j) h.1)

@@ -1,5 +1,5 @@
 use Rattle.std.specs.Prelude.{◌≡◌, ℕ, ◌+◌, ◌-◌, ◌<◌, ◌≤◌, ◌⊎◌, ◌↔◌, List, [], ◌∷◌, ◌++◌, length, Err, codes, decimal, ◌≢◌, slice_index_or}
-use Rattle.std.specs.List.{AllByRecursion as All}
+use Rattle.std.specs.List.{AllByRecursion}
 use Rattle.table.specs.declared.fault.Fault.{Fault}
 use Rattle.table.specs.Text.{pieces}
 use Rattle.table.specs.Table.{Listing, read_text}
@@ -7,7 +7,7 @@ use Rattle.table.specs.Write.{write, WellFormed}
 
 -- no byte b
 abbrev pub Free : ℕ → List ℕ → Type 0
-Free b xs = All (λ x. x ≢ b) xs
+Free b xs = AllByRecursion (λ x. x ≢ b) xs
 
 -- a field, counted from 1
 abbrev pub nth_field : List (List ℕ) → ℕ → List ℕ

@@ -1,5 +1,5 @@
 use Rattle.std.specs.Prelude.{◌≡◌, ℕ, ◌-◌, ◌<◌, ◌≤◌, cond, ◌↔◌, List, [], ◌∷◌, ◌++◌, length, Ok, codes, decimal, nat_lt}
-use Rattle.std.specs.List.{flat_map, AllByRecursion as All}
+use Rattle.std.specs.List.{flat_map, AllByRecursion}
 use Rattle.source.specs.declared.table.Move.{Move}
 use Rattle.table.specs.Table.{Listing, read_text}
 
@@ -35,7 +35,7 @@ abbrev pub WellFormedMove : ℕ → Move → Type 0
 WellFormedMove n m = (m.from < n) × (m.label ≤ 64) × (m.to < n)
 
 abbrev pub WellFormed : Listing → Type 0
-WellFormed t = (0 < t.states) × (t.states < 256) × (t.start < t.states) × All (WellFormedMove t.states) t.moves
+WellFormed t = (0 < t.states) × (t.states < 256) × (t.start < t.states) × AllByRecursion (WellFormedMove t.states) t.moves
 
 -- a text is read as a listing just if it is that listing written, and not too long
 abbrev pub ReadsWhatIsWritten : Type 0

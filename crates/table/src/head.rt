@@ -1,5 +1,5 @@
 ghost use Rattle.std.specs.Prelude.{◌≡◌, [], ◌∷◌, map};
-ghost use Rattle.std.specs.List.{AllByRecursion as All};
+ghost use Rattle.std.specs.List.{AllByRecursion};
 ghost use Rattle.table.specs.Table.{part, Within, states_at, head_of};
 
 use crate::fault::Fault;
@@ -18,7 +18,7 @@ pub struct Head {
 
 /// The fields after the kind, as the number of states and the start.
 pub(crate) fn head_of(text: &[u8], rest: &[Place], line: usize) -> Result<Head, Fault>
-    requires { All (Within text.now) rest.now }
+    requires { AllByRecursion (Within text.now) rest.now }
     ensures { result ≡ head_of line (map (part text.now) rest.now) }
 {
     let [states, start] = rest else {

@@ -1,5 +1,5 @@
 ghost use Rattle.std.specs.Prelude.{◌≡◌, map};
-ghost use Rattle.std.specs.List.{AllByRecursion as All};
+ghost use Rattle.std.specs.List.{AllByRecursion};
 ghost use Rattle.table.specs.Text.{pieces};
 ghost use Rattle.table.specs.Table.{part, Within, kind_of, line_by_kind, line_says, stage_after};
 
@@ -74,7 +74,7 @@ fn line_by(
     kind: Kind,
     line: usize,
 ) -> Result<Line, Fault>
-    requires { All (Within text.now) rest.now }
+    requires { AllByRecursion (Within text.now) rest.now }
     ensures { result ≡ line_by_kind stage kind line (map (part text.now) rest.now) }
 {
     match (stage, kind) {

@@ -1,5 +1,5 @@
 ghost use Rattle.std.specs.Prelude.{◌≡◌, [], ◌∷◌, map};
-ghost use Rattle.std.specs.List.{AllByRecursion as All};
+ghost use Rattle.std.specs.List.{AllByRecursion};
 ghost use Rattle.table.specs.Table.{part, Within, way_at, label_at, move_of};
 
 use crate::fault::Fault;
@@ -18,7 +18,7 @@ pub(crate) enum Way {
 
 /// The fields after the kind, as a move of a table with so many states.
 pub(crate) fn move_of(text: &[u8], rest: &[Place], states: u8, line: usize) -> Result<Move, Fault>
-    requires { All (Within text.now) rest.now }
+    requires { AllByRecursion (Within text.now) rest.now }
     ensures { result ≡ move_of states line (map (part text.now) rest.now) }
 {
     let [from, way, name, to] = rest else {

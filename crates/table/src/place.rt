@@ -1,5 +1,5 @@
 ghost use Rattle.std.specs.Prelude.{◌≡◌, ◌+◌, ◌<◌, ◌≤◌, [], ◌∷◌, map, length, take, if◌then◌else◌, nat_lt};
-ghost use Rattle.std.specs.List.{AllByRecursion as All};
+ghost use Rattle.std.specs.List.{AllByRecursion};
 ghost use Rattle.table.specs.Text.{cut, pieces};
 ghost use Rattle.table.specs.Table.{part, Within};
 
@@ -48,7 +48,7 @@ pub(crate) fn fields_of(text: &[u8], line: Place) -> Fields
     requires { Within text.now line }
     ensures some { 0 < result.many }
     ensures few { result.many ≤ 6 }
-    ensures within { All (Within text.now) (take result.many result.places) }
+    ensures within { AllByRecursion (Within text.now) (take result.many result.places) }
     ensures parts { map (part text.now) (take result.many result.places) ≡ take 6 (pieces 44 (part text.now line)) }
 {
     let mut places = [line; MOST];
