@@ -99,17 +99,21 @@ void bench_searching(const machine::Machine& searched, std::uint32_t repeats) {
     std::cout << "searches " << repeats << ", found " << found << ", sum " << sum << '\n';
 }
 
-int bench_table(const std::string& folder, std::uint64_t reads, std::uint64_t searches) {
-    bench_reading(file_at(folder + "/full.table"), reads);
-    const table::Reading sparse = table::read(file_at(folder + "/sparse.table"), bench_room);
-    bench_searching(*machine::of_table(std::get<table::Table>(sparse)), static_cast<std::uint32_t>(searches));
+int bench_table(const std::string& path, std::uint64_t repeats) {
+    bench_reading(file_at(path), repeats);
+    return 0;
+}
+
+int bench_search(const std::string& path, std::uint64_t repeats) {
+    const table::Reading sparse = table::read(file_at(path), bench_room);
+    bench_searching(*machine::of_table(std::get<table::Table>(sparse)), static_cast<std::uint32_t>(repeats));
     return 0;
 }
 
 // ---- The judge ----
 
-int write_judge_cases(std::uint64_t seed, std::size_t count) {
-    for (const std::string& line : judge_cases::make(seed, count)) std::cout << line << '\n';
+int write_judge_cases(std::uint64_t seed, std::size_t count, judge_cases::Choice choice) {
+    for (const std::string& line : judge_cases::make(seed, count, choice)) std::cout << line << '\n';
     return 0;
 }
 
@@ -178,10 +182,12 @@ int usage() {
                  "oracle cases source SEED COUNT      writes cases of piles over tables, one to a line\n"
                  "oracle answer source                reads them and writes the answer of each\n"
                  "oracle text table SEED BYTES        writes a well formed text of so many bytes (100 or more)\n"
-                 "oracle bench table FOLDER R S       reads the full text there R times, and searches the sparse one S times\n"
+                 "oracle bench table FILE REPEATS     reads a text so many times, for timing\n"
                  "oracle text sparse STATES           writes a machine of four moves a state\n"
+                 "oracle bench search FILE REPEATS    searches the machine of a text so many times, for timing\n"
                  "oracle cases judge SEED COUNT       writes cases of modules and contracts, one to a line\n"
-                 "oracle answer judge                 reads them and writes the answer of each\n"
+                 "oracle cases pile SEED COUNT        writes them with long paths, and with piles whose names are changed\n"
+                 "oracle answer judge                 reads either and writes the answer of each\n"
                  "oracle text judge KIND N            writes a case to be timed, of N states (1 to 255) a side; KIND is\n"
                  "                                    sparse, dense, ring, chain, rounds, loaded or pile (which has 255)\n"
                  "oracle selftest judge               holds the judge against the worked checks\n"
@@ -208,8 +214,10 @@ int main(int argc, char** argv) {
     if (asks("cases", "source", 4)) return write_source_cases(number(2), number(3));
     if (asks("answer", "source", 2)) return answer_source_cases();
     if (asks("text", "table", 4)) return write_table_text(number(2), number(3));
-    if (asks("bench", "table", 5)) return bench_table(words[2], number(3), number(4));
-    if (asks("cases", "judge", 4)) return write_judge_cases(number(2), number(3));
+    if (asks("bench", "table", 4)) return bench_table(words[2], number(3));
+    if (asks("bench", "search", 4)) return bench_search(words[2], number(3));
+    if (asks("cases", "judge", 4)) return write_judge_cases(number(2), number(3), judge_cases::Choice::judge);
+    if (asks("cases", "pile", 4)) return write_judge_cases(number(2), number(3), judge_cases::Choice::pile);
     if (asks("answer", "judge", 2)) return answer_judge_cases();
     if (asks("text", "sparse", 3)) return write_sparse_text(number(2));
     if (asks("text", "judge", 4)) return write_judge_text(words[2], number(3));
