@@ -69,7 +69,7 @@ bool library_left(const Case& made, Left& left) {
 
 // ---- The stack ----
 
-constexpr std::size_t stack_bytes = std::size_t{1} << 20;
+constexpr std::size_t stack_bytes = std::size_t{1} << 23;
 constexpr std::uint8_t paint = 0x5c;
 
 struct Call {

@@ -9,13 +9,7 @@ use crate::text::LINE_ROOM;
 
 /// Writes the verdict on the module's text and the contract's as one line, ended by a line feed, and answers its length.
 /// With a line buffer of fewer than 40 bytes it answers 0 and writes nothing.
-#[unsafe(no_mangle)]
-pub extern "C" fn verdict_line(
-    module: &[u8],
-    contract: &[u8],
-    workspace: &mut [u8],
-    line: &mut [u8],
-) -> usize
+pub fn verdict_line(module: &[u8], contract: &[u8], workspace: &mut [u8], line: &mut [u8]) -> usize
     ensures length { result ≡ length_told (line_for «module».now contract.now (length workspace.old)) line.old }
     ensures line { line.new ≡ line_after (line_for «module».now contract.now (length workspace.old)) line.old }
     ensures workspace { workspace.new ≡ with_room line.old (worked_on «module».now contract.now workspace.old) workspace.old }

@@ -47,12 +47,7 @@ fn behind(input: &[u8], at: usize) -> &[u8]
 
 /// The same of one input that holds both texts, parted by its first empty line; without one the contract's text is empty.
 /// An input over 40,960 bytes is refused.
-#[unsafe(no_mangle)]
-pub extern "C" fn verdict_line_of_input(
-    input: &[u8],
-    workspace: &mut [u8],
-    line: &mut [u8],
-) -> usize
+pub fn verdict_line_of_input(input: &[u8], workspace: &mut [u8], line: &mut [u8]) -> usize
     ensures length { result ≡ length_told (line_for_input input.now (length workspace.old)) line.old }
     ensures line { line.new ≡ line_after (line_for_input input.now (length workspace.old)) line.old }
     ensures workspace { workspace.new ≡ with_room line.old (worked_on_input input.now workspace.old) workspace.old }
