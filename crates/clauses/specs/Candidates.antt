@@ -18,7 +18,7 @@ unfoldable pub first_some : {A : Type 0} → (ℕ → Option A) → ℕ → ℕ 
 first_some f zero k = None
 first_some f (suc n) k = or_else (f k) (first_some f n (suc k))
 
--- silent moves, then one move on the label: `weak_step` where R is `tau-reaches M`
+-- silent moves, then one move on the label: `weak_step` where R is `tau_reaches M`
 unfoldable pub weak_by : Machine → (ℕ → ℕ → Bool) → ℕ → ℕ → ℕ → Bool
 weak_by M R p l q = some_below M.size (λ t. R p t && M.move t l q)
 

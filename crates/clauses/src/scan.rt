@@ -75,7 +75,8 @@ pub fn first_failing_copied<P: Source>(
     scan(module, n, contract, m, workspace, round, p, q)
 }
 
-/// The same of a contract that is not copied yet.
+/// The first candidate of the pair that fails against the pairs that stood before the round, as `first_failing_copied` finds it by
+/// a copy of the contract.
 pub fn first_failing<P: Source, Q: Source>(
     module: &P,
     contract: &Q,

@@ -43,8 +43,7 @@ fn fill(module: &Dense, contract: &Dense, n: usize, m: usize, workspace: &mut [u
     strike_all(module, contract, &sides, covered, workspace)
 }
 
-/// Fills the workspace with both closures and the ranks, and answers the last round that struck a pair.
-/// A source that is too large is refused first, then a workspace that is too short; a refusal leaves it.
+/// The same as `fill_workspace`, of sources that are copied.
 pub fn fill_copied(module: &Dense, contract: &Dense, workspace: &mut [u8]) -> Result<u16, Refusal>
     ensures value { result ≡ filled (meaning «module».now) (meaning contract.now) (length workspace.old) }
     ensures workspace { workspace.new ≡ workspace_after (meaning «module».now) (meaning contract.now) workspace.old }
@@ -60,7 +59,8 @@ pub fn fill_copied(module: &Dense, contract: &Dense, workspace: &mut [u8]) -> Re
     Ok(fill(module, contract, n, m, workspace))
 }
 
-/// The same of sources that are not copied yet.
+/// Fills the workspace with both closures and the ranks, and answers the last round that struck a pair.
+/// A source that is too large is refused first, then a workspace that is too short; a refusal leaves it.
 pub fn fill_workspace<P: Source, Q: Source>(
     module: &P,
     contract: &Q,

@@ -11,7 +11,7 @@ pub(crate) fn number(s: &[u8], limit: u16, line: usize, field: u8) -> Result<u8,
     ensures value { result ≡ number_at limit line field s.now }
     ensures below { IfOk result (λ n. n < limit) }
 {
-    match figure_below(s, limit) {
+    match figure(s, limit) {
         Some(n) => Ok(n),
         None => Err(Fault::Figure { line, field }),
     }
@@ -21,11 +21,11 @@ pub(crate) fn number(s: &[u8], limit: u16, line: usize, field: u8) -> Result<u8,
 pub fn small_figure(s: &[u8]) -> Option<u8>
     ensures { result ≡ figure_below 256 s.now }
 {
-    figure_below(s, 256)
+    figure(s, 256)
 }
 
 /// The figure that the bytes write, if it is one and lies below the limit.
-fn figure_below(s: &[u8], limit: u16) -> Option<u8>
+fn figure(s: &[u8], limit: u16) -> Option<u8>
     requires { limit ≤ 256 }
     ensures value { result ≡ figure_below limit s.now }
     ensures below { IfSome result (λ n. n < limit) }
