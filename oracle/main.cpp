@@ -135,6 +135,16 @@ int write_judge_text(const std::string& kind, std::uint64_t states) {
     return 0;
 }
 
+// Writes the verdict of the last turn.
+int bench_judge(const std::string& kind, std::uint64_t states, std::uint64_t repeats) {
+    const auto timed = judge_cases::to_time(kind, states);
+    if (!timed || repeats == 0) return 1;
+    std::string said;
+    for (std::uint64_t turn = 0; turn < repeats; ++turn) said = judge_cases::answer(*timed);
+    std::cout << said.substr(0, said.find(';')) << '\n';
+    return 0;
+}
+
 // The definitions taken literally, against the judge above.
 int compare_literally(std::uint64_t seed, std::size_t count) {
     const std::size_t wrong = literal::disagreements(seed, count);
@@ -190,6 +200,7 @@ int usage() {
                  "oracle answer judge                 reads either and writes the answer of each\n"
                  "oracle text judge KIND N            writes a case to be timed, of N states (1 to 255) a side; KIND is\n"
                  "                                    sparse, dense, ring, chain, rounds, loaded or pile (which has 255)\n"
+                 "oracle bench judge KIND N REPEATS   reads and judges it so many times, for timing\n"
                  "oracle selftest judge               holds the judge against the worked checks\n"
                  "oracle selftest literal SEED COUNT  holds the judge against every relation, for so many small pairs\n"
                  "oracle cases literal SEED COUNT     writes such pairs as cases of the judge\n"
@@ -216,6 +227,7 @@ int main(int argc, char** argv) {
     if (asks("text", "table", 4)) return write_table_text(number(2), number(3));
     if (asks("bench", "table", 4)) return bench_table(words[2], number(3));
     if (asks("bench", "search", 4)) return bench_search(words[2], number(3));
+    if (asks("bench", "judge", 5)) return bench_judge(words[2], number(3), number(4));
     if (asks("cases", "judge", 4)) return write_judge_cases(number(2), number(3), judge_cases::Choice::judge);
     if (asks("cases", "pile", 4)) return write_judge_cases(number(2), number(3), judge_cases::Choice::pile);
     if (asks("answer", "judge", 2)) return answer_judge_cases();
