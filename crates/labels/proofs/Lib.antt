@@ -1,3 +1,4 @@
 pub mod Bits
 pub mod Directions
 pub mod Taking
+pub mod Listed

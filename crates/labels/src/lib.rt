@@ -1,9 +1,13 @@
 #![tactic(auto)]
 
-ghost use Rattle.std.specs.Prelude.{◌≡◌, ℕ, ◌<◌, not, ◌&&◌, ◌||◌, MatchOption, ◌==◌};
+ghost use Rattle.std.specs.Prelude.{◌≡◌, ℕ, ◌<◌, not, ◌&&◌, ◌||◌, MatchOption, ◌==◌, Some};
+ghost use Rattle.std.specs.Iterator.{YieldsFirst, item_count};
 ghost use Rattle.lts.specs.Labels.{member, complement, name_of};
 ghost use Rattle.lts.specs.Machines.{some_below};
-ghost use Rattle.labels.specs.Sets.{Lowest, Taken};
+ghost use Rattle.labels.specs.Sets.{Lowest, Taken, members};
+ghost use Rattle.labels.specs.Texts.{label_text, names_text};
+
+use std::fmt;
 
 /// The number of names: k receives on name k, and k + 32 sends on it.
 pub const NAMES: u8 = 32;
@@ -18,6 +22,13 @@ pub fn complement(label: u8) -> u8
     (label % TAU + NAMES) % TAU
 }
 
+/// Whether bit k of a number of 64 bits is 1.
+fn has_bit(bits: u64, k: u8) -> bool
+    ensures { result ≡ member bits k }
+{
+    k < TAU && (bits >> k) % 2 == 1
+}
+
 /// A set of names: name k is a member where bit k is 1.
 #[derive(Clone, Copy, PartialEq, Eq, Debug)]
 pub struct NameSet(pub u32);
@@ -26,7 +37,23 @@ impl NameSet {
     pub fn has(self, name: u8) -> bool
         ensures { result ≡ member self.0 name }
     {
-        name < NAMES && (self.0 >> name) % 2 == 1
+        has_bit(u64::from(self.0), name)
+    }
+}
+
+/// The names, lowest first, with `, ` between two.
+impl fmt::Display for NameSet {
+    ghost output = { λ names. Some (names_text names.0) };
+
+    fn fmt<W: fmt::Write>(&self, f: &mut fmt::Formatter<W>) -> fmt::Result {
+        let mut names = LabelSet(u64::from(self.0)).iter();
+        if let Some(first) = names.next() {
+            write!(f, "{first}")?;
+            for name in names {
+                write!(f, ", {name}")?;
+            }
+        }
+        Ok(())
     }
 }
 
@@ -41,6 +68,20 @@ impl LabelSet {
         LabelSet(0)
     }
 
+    /// The visible labels that pass a test.
+    pub fn of<F: Fn(u8) -> bool>(f: F) -> LabelSet
+        requires { (k : ℕ) → k < 64 → F.pre f k }
+        ensures { (k : ℕ) → k < 64 → F.post f k (member result.0 k) }
+    {
+        let mut found = LabelSet::empty();
+        for label in 0..TAU {
+            if f(label) {
+                found = found.with(label);
+            }
+        }
+        found
+    }
+
     pub fn bits(self) -> u64
         ensures { result ≡ self.0 }
     {
@@ -51,7 +92,7 @@ impl LabelSet {
     pub fn has(self, label: u8) -> bool
         ensures { result ≡ member self.0 label }
     {
-        label < TAU && (self.0 >> label) % 2 == 1
+        has_bit(self.0, label)
     }
 
     /// The set with one label more; a label from 64 on adds nothing.
@@ -117,5 +158,47 @@ impl LabelSet {
         let label = self.lowest()?;
         *self = LabelSet(self.0 & !(1 << label));
         Some(label)
+    }
+
+    /// The labels of the set, lowest first.
+    pub fn iter(self) -> Labels
+        ensures { result.left ≡ self }
+    {
+        Labels { left: self }
+    }
+}
+
+/// The labels of a set that are still to come, lowest first.
+#[derive(Clone, Debug, Drop)]
+pub struct Labels {
+    left: LabelSet,
+}
+
+impl Iterator for Labels {
+    type Item = u8;
+
+    ghost next_gives = { YieldsFirst (λ labels. members labels.left.0) };
+
+    ghost remaining = { item_count (λ labels. members labels.left.0) };
+
+    fn next(&mut self) -> Option<u8> {
+        self.left.take_lowest()
+    }
+}
+
+/// A visible label as text: `?k` receives on name k, and `!k` sends on it.
+#[derive(Clone, Copy, PartialEq, Eq, Debug)]
+pub struct VisibleLabel(pub u8);
+
+impl fmt::Display for VisibleLabel {
+    ghost output = { λ label. Some (label_text label.0) };
+
+    fn fmt<W: fmt::Write>(&self, f: &mut fmt::Formatter<W>) -> fmt::Result {
+        let label = self.0;
+        if label < NAMES {
+            write!(f, "?{label}")
+        } else {
+            write!(f, "!{}", label - NAMES)
+        }
     }
 }
