@@ -5,7 +5,7 @@ ghost use Rattle.source.specs.Sounds.{table_sound};
 use crate::source::Source;
 use labels::{LabelSet, TAU};
 
-#[derive(Clone, Copy, PartialEq, Eq, Debug)]
+#[derive(Clone, Copy, PartialEq, Eq, Default, Debug)]
 pub struct Move {
     pub from: u8,
     pub label: u8,
