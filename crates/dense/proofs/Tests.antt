@@ -16,6 +16,12 @@ some_alike n f g e =
     (λ t. let o = some_out n f t in some_in n g o.0 o.1 (sym (e o.0 o.1) ∙ o.2))
     (λ t. let o = some_out n g t in some_in n f o.0 o.1 (e o.0 o.1 ∙ o.2))
 
+-- a test that another implies
+pub implied : (a b : Bool) → (b ≡ true → a ≡ true) → (a && b) ≡ b
+implied true b f = refl
+implied false true f = f refl
+implied false false f = refl
+
 -- one more number below the bound
 pub below_next : (q x : ℕ) → (q ≡ x → ⊥) → ltb x (q + 1) ≡ ltb x q
 below_next q x d = ⊎_elim

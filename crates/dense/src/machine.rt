@@ -25,16 +25,10 @@ fn copy_row<S: Source>(source: &S, n: usize, initials: LabelSet, p: usize, label
     requires asked { initials.0 ≡ initials_mask (S.Source.means source.now) p }
     ensures { (q : ℕ) → q < 256 → in_row result q ≡ (S.Source.means source.now).move p label q }
 {
-    let mut found = Row::empty();
     if label < TAU && !initials.has(label) {
-        return found;
+        return Row::empty();
     }
-    for q in 0..n {
-        if source.has_move(p, label, q) {
-            found = found.with(q);
-        }
-    }
-    found
+    Row::of(n, |q| source.has_move(p, label, q))
 }
 
 /// The same for each label.
@@ -102,18 +96,12 @@ impl Dense {
     pub fn before(&self, label: u8, states: Row) -> Row
         ensures { (p : ℕ) → p < 256 → in_row result p ≡ moves_into (meaning self.now) label (in_row states) p }
     {
+        if label > TAU {
+            return Row::empty();
+        }
         let n = self.count();
         let inside = states.both(Row::below(n));
-        let mut found = Row::empty();
-        if label > TAU {
-            return found;
-        }
-        for p in 0..n {
-            if self.rows[p][label as usize].meets(inside) {
-                found = found.with(p);
-            }
-        }
-        found
+        Row::of(n, |p| self.rows[p][label as usize].meets(inside))
     }
 }
 

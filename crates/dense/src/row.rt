@@ -1,4 +1,4 @@
-ghost use Rattle.std.specs.Prelude.{◌≡◌, ℕ, ◌<◌, false, not, ◌&&◌, ◌||◌, ◌==◌, nat_lt};
+ghost use Rattle.std.specs.Prelude.{◌≡◌, ℕ, ◌<◌, ◌≤◌, Bool, false, not, ◌&&◌, ◌||◌, ◌==◌, nat_lt};
 ghost use Rattle.lts.specs.Labels.{member};
 ghost use Rattle.lts.specs.Machines.{some_below};
 ghost use Rattle.dense.specs.Rows.{in_row};
@@ -25,6 +25,22 @@ impl Row {
         ensures { (q : ℕ) → in_row result q ≡ false }
     {
         Row { low: 0, high: 0 }
+    }
+
+    /// The states below `n` that pass a test; none from 256 on.
+    pub fn of<F: Fn(usize) -> bool>(n: usize, f: F) -> Row
+        requires { (q : ℕ) → q < n → q < 256 → F.pre f q }
+        ensures tested { (q : ℕ) → q < n → q < 256 → F.post f q (in_row result q) }
+        ensures others { (q : ℕ) → n ≤ q → q < 256 → in_row result q ≡ false }
+        ensures by_test { (test : ℕ → Bool) → ((q : ℕ) (b : Bool) → q < n → q < 256 → F.post f q b → b ≡ test q) → (q : ℕ) → q < 256 → in_row result q ≡ (nat_lt q n && test q) }
+    {
+        let mut found = Row::empty();
+        for state in 0..n.min(2 * HALF) {
+            if f(state) {
+                found = found.with(state);
+            }
+        }
+        found
     }
 
     /// No state from 256 on is a member.
