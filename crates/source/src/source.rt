@@ -1,4 +1,4 @@
-ghost use Rattle.std.specs.Prelude.{◌≡◌};
+ghost use Rattle.std.specs.Prelude.{◌≡◌, cond, ◌==◌};
 ghost use Rattle.lts.specs.Machines.{Machine, Sound, told_size, stable};
 ghost use Rattle.source.specs.Masks.{initials_mask};
 
@@ -29,6 +29,13 @@ pub trait Source {
     /// Whether `p` is a state without a silent move.
     fn is_stable(&self, p: usize) -> bool
         ensures { result ≡ stable (means self.now) p };
+}
+
+/// What a source tells of the number of its states: 256 where there are none, which is the word too-large.
+pub fn told_size(count: u16) -> u16
+    ensures { result ≡ cond (count == 0) 256 count }
+{
+    if count == 0 { 256 } else { count }
 }
 
 impl<S: Source> Source for &S {

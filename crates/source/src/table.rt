@@ -2,6 +2,7 @@ ghost use Rattle.std.specs.Prelude.{◌≡◌};
 ghost use Rattle.source.specs.Tables.{table_machine, table_size};
 ghost use Rattle.source.specs.Sounds.{table_sound};
 
+use crate::extent::Extent;
 use crate::source::Source;
 use labels::{LabelSet, TAU};
 
@@ -22,15 +23,19 @@ pub struct Table<'a> {
 }
 
 impl Table<'_> {
-    /// The number of states, or 0 for too-large.
+    fn extent(&self) -> Extent
+        ensures { result ≡ record { states = self.now.states; start = self.now.start } }
+    {
+        Extent {
+            states: self.states,
+            start: self.start,
+        }
+    }
+
     fn count(&self) -> usize
         ensures { result ≡ table_size self.now.states self.now.start }
     {
-        if self.start < self.states {
-            self.states as usize
-        } else {
-            0
-        }
+        self.extent().count()
     }
 }
 
@@ -40,16 +45,11 @@ impl Source for Table<'_> {
     ghost sound = { λ t. table_sound t.states t.start t.moves.now };
 
     fn size(&self) -> u16 {
-        let n = self.count();
-        if n == 0 { 256 } else { n as u16 }
+        self.extent().size()
     }
 
     fn start(&self) -> usize {
-        if self.count() == 0 {
-            0
-        } else {
-            self.start as usize
-        }
+        self.extent().start()
     }
 
     fn has_move(&self, p: usize, label: u8, q: usize) -> bool {
@@ -57,6 +57,7 @@ impl Source for Table<'_> {
         if p >= n || q >= n || label > TAU {
             return false;
         }
+        // A rule of the project: has_move and initials go over the elements of the move slice.
         for v in self.moves {
             if v.from as usize == p && v.label == label && v.to as usize == q {
                 return true;
