@@ -1,5 +1,5 @@
 -- Machines that are given by the rows of their successors.
-use Rattle.std.specs.Prelude.{ℕ, Bool, false, cond, ◌&&◌, List, [], ◌==◌, slice_index_or}
+use Rattle.std.specs.Prelude.{◌≡◌, ℕ, ◌<◌, Bool, false, cond, ◌&&◌, List, [], ◌==◌, slice_index_or}
 use Rattle.lts.specs.Machines.{Machine, some_below}
 use Rattle.source.specs.Tables.{table_size, in_range}
 use Rattle.dense.specs.declared.machine.Dense.{Dense}
@@ -9,6 +9,10 @@ use Rattle.dense.specs.Rows.{in_row, none}
 -- the row of p's successors on the label
 abbrev pub row_at : List (List Row) → ℕ → ℕ → Row
 row_at rows p l = slice_index_or (slice_index_or rows p []) l none
+
+-- the row holds the states that p moves to on the label
+pub record Successors (M : Machine) (p l : ℕ) (row : Row) : Type 0 where
+  pub told : (q : ℕ) → q < 256 → in_row row q ≡ M.move p l q
 
 -- what is out of range does not count
 abbrev pub dense_move : ℕ → List (List Row) → ℕ → ℕ → ℕ → Bool

@@ -3,11 +3,12 @@ ghost use Rattle.lts.specs.Machines.{Machine};
 ghost use Rattle.source.specs.Masks.{initials_mask};
 ghost use Rattle.source.specs.Tables.{table_size};
 ghost use Rattle.dense.specs.Rows.{in_row, none};
-ghost use Rattle.dense.specs.Copies.{row_at, meaning, no_machine, moves_into};
+ghost use Rattle.dense.specs.Copies.{row_at, Successors, meaning, no_machine, moves_into};
 ghost use Rattle.dense.specs.Sounds.{dense_sound};
 
 use crate::row::Row;
 use labels::{LabelSet, TAU};
+use source::extent::Extent;
 use source::source::Source;
 
 /// A machine as the rows of its successors, one for each of 255 states and 65 labels. What lies out of range does not count,
@@ -23,7 +24,7 @@ pub struct Dense {
 fn copy_row<S: Source>(source: &S, n: usize, initials: LabelSet, p: usize, label: u8) -> Row
     requires states { n ≡ (S.Source.means source.now).size }
     requires asked { initials.0 ≡ initials_mask (S.Source.means source.now) p }
-    ensures { (q : ℕ) → q < 256 → in_row result q ≡ (S.Source.means source.now).move p label q }
+    ensures { Successors (S.Source.means source.now) p label result }
 {
     if label < TAU && !initials.has(label) {
         return Row::empty();
@@ -34,12 +35,12 @@ fn copy_row<S: Source>(source: &S, n: usize, initials: LabelSet, p: usize, label
 /// The same for each label.
 fn copy_state<S: Source>(source: &S, n: usize, p: usize) -> [Row; 65]
     requires { n ≡ (S.Source.means source.now).size }
-    ensures { (l : ℕ) → l ≤ 64 → (q : ℕ) → q < 256 → in_row (slice_index_or result l none) q ≡ (S.Source.means source.now).move p l q }
+    ensures { (l : ℕ) → l ≤ 64 → Successors (S.Source.means source.now) p l (slice_index_or result l none) }
 {
     let initials = source.initials(p);
     let mut rows = [Row::empty(); 65];
-    for label in 0..65u8 {
-        rows[label as usize] = copy_row(source, n, initials, p, label);
+    for (label, row) in rows.iter_mut().enumerate() {
+        *row = copy_row(source, n, initials, p, label as u8);
     }
     rows
 }
@@ -47,10 +48,10 @@ fn copy_state<S: Source>(source: &S, n: usize, p: usize) -> [Row; 65]
 /// The same for each state.
 fn copy_rows<S: Source>(source: &S, n: usize, rows: &mut [[Row; 65]; 255])
     requires { n ≡ (S.Source.means source.now).size }
-    ensures { (p l q : ℕ) → p < n → l ≤ 64 → q < 256 → in_row (row_at rows.new p l) q ≡ (S.Source.means source.now).move p l q }
+    ensures { (p l : ℕ) → p < n → l ≤ 64 → Successors (S.Source.means source.now) p l (row_at rows.new p l) }
 {
-    for p in 0..n {
-        rows[p] = copy_state(source, n, p);
+    for (p, row) in rows[..n].iter_mut().enumerate() {
+        *row = copy_state(source, n, p);
     }
 }
 
@@ -81,15 +82,19 @@ impl Dense {
         }
     }
 
-    /// The number of states, or 0 for too-large.
+    fn extent(&self) -> Extent
+        ensures { result ≡ record { states = self.now.states; start = self.now.start } }
+    {
+        Extent {
+            states: self.states,
+            start: self.start,
+        }
+    }
+
     fn count(&self) -> usize
         ensures { result ≡ table_size self.now.states self.now.start }
     {
-        if self.start < self.states {
-            self.states as usize
-        } else {
-            0
-        }
+        self.extent().count()
     }
 
     /// The states with a move on the label into the set.
@@ -111,16 +116,11 @@ impl Source for Dense {
     ghost sound = { λ d. dense_sound d.states d.start d.rows };
 
     fn size(&self) -> u16 {
-        let n = self.count();
-        if n == 0 { 256 } else { n as u16 }
+        self.extent().size()
     }
 
     fn start(&self) -> usize {
-        if self.count() == 0 {
-            0
-        } else {
-            self.start as usize
-        }
+        self.extent().start()
     }
 
     fn has_move(&self, p: usize, label: u8, q: usize) -> bool {
@@ -133,17 +133,11 @@ impl Source for Dense {
 
     fn initials(&self, p: usize) -> LabelSet {
         let n = self.count();
-        let mut seen = LabelSet::empty();
         if p >= n {
-            return seen;
+            return LabelSet::empty();
         }
         let all = Row::below(n);
-        for label in 0..TAU {
-            if self.rows[p][label as usize].meets(all) {
-                seen = seen.with(label);
-            }
-        }
-        seen
+        LabelSet::of(|label| self.rows[p][label as usize].meets(all))
     }
 
     fn is_stable(&self, p: usize) -> bool {

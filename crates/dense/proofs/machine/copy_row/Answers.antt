@@ -14,18 +14,24 @@ unmoved M p l q s e = ⊎_elim
     (cases_Bool (M.move p l q))
 
 pub returns-then-not-has : goal.returns-then-not-has
-returns-then-not-has g c = λ q _.
+returns-then-not-has g c =
     let M = g.S.Source.means c.args.source.now in
     let l = c.args.label in
-    c.empty.ensures q
-    ∙ sym (unmoved M c.args.p l q (g.S.Source.sound c.args.source.now)
-    (sym (initials_member M c.args.p c.args.initials.0 c.requires.asked l c.if-label-lt-TAU.true) ∙ sym c.if-not-has.ensures))
+    record {
+      told = λ q _.
+          c.empty.ensures q
+          ∙ sym (unmoved M c.args.p l q (g.S.Source.sound c.args.source.now)
+          (sym (initials_member M c.args.p c.args.initials.0 c.requires.asked l c.if-label-lt-TAU.true) ∙ sym c.if-not-has.ensures));
+    }
 
 -- a move leads to a state
 pub returns : goal.returns
-returns g c = λ q h.
+returns g c =
     let M = g.S.Source.means c.args.source.now in
     let p = c.args.p in
     let l = c.args.label in
-    c.of.ensures.by_test (M.move p l) (λ q b k i e. search rules) q h
-    ∙ implied _ _ (λ t. let w = ((g.S.Source.sound c.args.source.now).within p l q t).to in lt-ltb q c.args.n (let z = c.requires.states in omega arith))
+    record {
+      told = λ q h.
+          c.of.ensures.by_test (M.move p l) (λ q b k i e. search rules) q h
+          ∙ implied _ _ (λ t. let w = ((g.S.Source.sound c.args.source.now).within p l q t).to in lt-ltb q c.args.n (let z = c.requires.states in omega arith));
+    }

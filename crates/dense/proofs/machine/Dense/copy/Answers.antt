@@ -15,7 +15,7 @@ returns-else-n-eq256 g c =
     let t = told c.size-n.result M.size c.size-n.ensures c.if-n-eq256.false in
     copy_is M c.size-n.result c.start.result c.copy_rows.new.rows (g.S.Source.sound c.args.source.now) (sym t.0) c.start.ensures
     (let a = t.0 in ⊎_elim (λ (z : M.size ≡ 0). absurd (t.1 z)) (λ (z : M.size ≡ 0 → ⊥). omega arith) (cases_eq M.size 0))
-    c.copy_rows.ensures
+    (λ p l q h b i. (c.copy_rows.ensures p l h b).told q i)
 
 pub returns-then-n-eq256 : goal.returns-then-n-eq256
 returns-then-n-eq256 g c =
