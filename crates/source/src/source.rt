@@ -1,4 +1,4 @@
-ghost use Rattle.std.specs.Prelude.{◌≡◌, cond, ◌==◌};
+ghost use Rattle.std.specs.Prelude.{◌≡◌, ◌<◌, cond, ◌==◌, MatchOption};
 ghost use Rattle.lts.specs.Machines.{Machine, Sound, told_size, stable};
 ghost use Rattle.source.specs.Masks.{initials_mask};
 
@@ -29,6 +29,16 @@ pub trait Source {
     /// Whether `p` is a state without a silent move.
     fn is_stable(&self, p: usize) -> bool
         ensures { result ≡ stable (means self.now) p };
+
+    /// The number of states of a machine that is not too large.
+    final fn states(&self) -> Option<usize>
+        ensures { MatchOption result ((means self.now).size ≡ 0) (λ n. (n ≡ (means self.now).size) × (0 < n)) }
+    {
+        match self.size() {
+            256 => None,
+            n => Some(usize::from(n)),
+        }
+    }
 }
 
 /// What a source tells of the number of its states: 256 where there are none, which is the word too-large.
