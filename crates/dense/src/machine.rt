@@ -71,14 +71,16 @@ impl Dense {
     pub fn copy<S: Source>(&mut self, source: &S)
         ensures { meaning self.new ≡ S.Source.means source.now }
     {
-        let n = source.size();
-        if n == 256 {
-            self.states = 0;
-            self.start = 0;
-        } else {
-            self.states = n as u8;
-            self.start = source.start() as u8;
-            copy_rows(source, n as usize, &mut self.rows);
+        match source.states() {
+            None => {
+                self.states = 0;
+                self.start = 0;
+            }
+            Some(n) => {
+                self.states = n as u8;
+                self.start = source.start() as u8;
+                copy_rows(source, n, &mut self.rows);
+            }
         }
     }
 

@@ -7,6 +7,7 @@ ghost use Rattle.dense.specs.Rows.{in_row};
 const HALF: usize = 128;
 
 /// A set of the states below 256, a bit for each.
+// Sets of labels fit one word: one type for both would be a trait of words with laws of its own, longer than the two.
 #[derive(Clone, Copy, PartialEq, Eq, Debug)]
 pub struct Row {
     low: u128,
@@ -61,12 +62,12 @@ impl Row {
         if state < HALF {
             Row {
                 low: self.low | (1 << state),
-                high: self.high,
+                ..self
             }
         } else if state < 2 * HALF {
             Row {
-                low: self.low,
                 high: self.high | (1 << (state - HALF)),
+                ..self
             }
         } else {
             self
