@@ -3,9 +3,12 @@ use Rattle.std.proofs.Common.{◌≡◌, ℕ, zero, suc, ◌+◌, ◌<◌, ◌�
 use Rattle.std.specs.List.{filter, list_any, range_with_len}
 use Rattle.std.specs.Iterator.{YieldsFirst, MakesProgress, item_count}
 use Rattle.std.proofs.lemmas.Bool.{cond-true, cond-false, eq-eqb, ne_eqb, cases_eq, cases_Bool, and_parts, and_from, or_cases, or_left, or_right, true≢false}
+use Rattle.std.proofs.lemmas.Iterator.{YieldsList}
+use Rattle.std.proofs.lemmas.Iterator.Consumers.{YieldsList-from_first}
 use Rattle.lts.specs.Labels.{member}
 use Rattle.lts.specs.Some.{same, some_in, some_out}
 use Rattle.labels.specs.declared.Labels.{Labels}
+use Rattle.labels.specs.declared.LabelSet.{LabelSet}
 use Rattle.labels.specs.Sets.{Taken, members}
 use Rattle.labels.proofs.Bits.{member_none, and_true}
 use Rattle.labels.proofs.Taking.{some_member}
@@ -104,3 +107,7 @@ pub takes_one : (x y : Labels) (r : Option ℕ) → YieldsFirst (λ labels. memb
     → MakesProgress (λ _. Unit {0}) (item_count (λ labels. members labels.left.0)) x r y
 takes_one x y None e = record { on = λ _. tt; keeps = tt; rests = λ _. tt }
 takes_one x y (Some k) e = record { on = λ _. (tt, tt, search (rules, ap (length {A = ℕ}) e)); keeps = tt; rests = λ _. tt }
+
+-- an iterator over a set gives its members
+pub yields_members : (s : LabelSet) {i : Labels} → i.left ≡ s → YieldsList (YieldsFirst (λ labels. members labels.left.0)) (λ k. k) i (members s.0)
+yields_members s e = YieldsList-from_first (λ k. k) (λ (labels : Labels). members labels.left.0) (members s.0) (ap (λ (t : LabelSet). members t.0) e)
