@@ -127,10 +127,7 @@ impl Source for Dense {
 
     fn has_move(&self, p: usize, label: u8, q: usize) -> bool {
         let n = self.count();
-        if p >= n || q >= n || label > TAU {
-            return false;
-        }
-        self.rows[p][label as usize].has(q)
+        p < n && q < n && label <= TAU && self.rows[p][label as usize].has(q)
     }
 
     fn initials(&self, p: usize) -> LabelSet {
@@ -144,9 +141,6 @@ impl Source for Dense {
 
     fn is_stable(&self, p: usize) -> bool {
         let n = self.count();
-        if p >= n {
-            return false;
-        }
-        !self.rows[p][64].meets(Row::below(n))
+        p < n && !self.rows[p][TAU as usize].meets(Row::below(n))
     }
 }

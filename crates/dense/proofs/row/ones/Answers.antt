@@ -21,6 +21,3 @@ returns-then-n-lt-HALF c = λ k _.
 
 pub returns-else-n-lt-HALF : goal.returns-else-n-lt-HALF
 returns-else-n-lt-HALF c = λ k h. all_low 128 k h ∙ sym (lt-ltb k c.args.n (omega arith))
-
-pub overflow_sub-result : goal.overflow_sub-result
-overflow_sub-result c = let e = one_shl c.args.n 128 c.if-n-lt-HALF.true in let p = pow_pos c.args.n in omega arith

@@ -1,4 +1,4 @@
-use Rattle.std.proofs.Common.{◌≡◌, ℕ, ◌^◌, ◌<◌, Bool, false, ◌&&◌, ◌||◌, eqb, ltb, get_or, take, sym, ap, ◌∙◌, subst, arith}
+use Rattle.std.proofs.Common.{◌≡◌, ◌^◌, ◌<◌, Bool, false, ◌&&◌, ◌||◌, eqb, ltb, get_or, take, sym, ap, ◌∙◌, subst, arith}
 use Rattle.std.proofs.lemmas.List.{take_all}
 use Rattle.std.proofs.lemmas.Bool.{and_left, and_right, eq-eqb, ne_eqb, lt-ltb, le-ltb}
 use Rattle.lts.specs.Labels.{member}
@@ -7,7 +7,7 @@ use Rattle.labels.specs.declared.LabelSet.{LabelSet}
 use Rattle.source.specs.declared.table.Move.{Move}
 use Rattle.source.specs.Tables.{any, table_machine}
 use Rattle.source.specs.Sounds.{table_sound}
-use Rattle.labels.proofs.Bits.{or_false, member_none}
+use Rattle.labels.proofs.Bits.{or_false}
 use Rattle.source.proofs.Masks.{mask_from}
 use Rattle.source.proofs.Initials.{initials_outside}
 use Rattle.source.proofs.Tabled.{blank, leaves, any_more, table_initial}
@@ -20,9 +20,6 @@ returns-then-p-n c =
     let start = c.args.self.now.start in
     let vs = c.args.self.now.moves.now in
     initials_outside (table_machine states start vs) c.args.p c.empty-seen.result.0 (table_sound states start vs) (omega arith) c.empty-seen.ensures
-
-pub loop-v-init : goal.loop-v-init
-loop-v-init c = (omega arith, λ a h. ap (λ (x : ℕ). member x a) c.empty-seen.ensures ∙ member_none a)
 
 pub loop-v-preserved : goal.loop-v-preserved
 loop-v-preserved c =
