@@ -1,9 +1,6 @@
 -- The first of the numbers in order at which something is found.
-use Rattle.std.proofs.Common.{◌≡◌, ℕ, zero, suc, ◌+◌, ◌<◌, ◌≤◌, true, false, not, eqb, ◌⊎◌, is_some, Some, None, Option, sym, refl, ap, ◌∙◌, subst, inl, inr, ⊎_elim, arith}
-use Rattle.std.proofs.lemmas.Bool.{cases_eq, and_cases, both_ways, ne_eqb, true≢false, false≢true}
-use Rattle.lts.specs.Labels.{member}
-use Rattle.labels.specs.Sets.{Taken}
-use Rattle.labels.proofs.Bits.{member_none}
+use Rattle.std.proofs.Common.{◌≡◌, ℕ, zero, suc, ◌+◌, ◌<◌, ◌≤◌, true, false, ◌⊎◌, is_some, Some, None, Option, sym, refl, ap, ◌∙◌, subst, inl, inr, ⊎_elim, arith}
+use Rattle.std.proofs.lemmas.Bool.{cases_eq, true≢false, false≢true}
 use Rattle.clauses.specs.Candidates.{or_else, first_some}
 
 -- nothing, or something
@@ -77,29 +74,6 @@ module _ {A : Type 0} (f : ℕ → Option A) where
   -- the same from 0 on
   pub none_found : (n : ℕ) → first_some f n 0 ≡ None → (k : ℕ) → k < n → f k ≡ None
   none_found n e k h = none_from n 0 e k (omega arith) (omega arith)
-
-  -- labels are taken from the lowest up; nothing is found at those that are not left
-  abbrev pub Left : ℕ → Type 0
-  Left x = (a : ℕ) → a < 64 → member x a ≡ false → f a ≡ None
-
-  -- one more label that finds nothing
-  pub left_less : (x k y : ℕ) → Left x → Taken x k y → f k ≡ None → Left y
-  left_less x k y h t e a b z =
-      ⊎_elim
-      (λ (u : member x a ≡ false). h a b u)
-      (λ (u : not (eqb k a) ≡ false).
-      ⊎_elim (λ (v : k ≡ a). subst (λ (j : ℕ). f j ≡ None) v e)
-      (λ (v : k ≡ a → ⊥). absurd (both_ways (not (eqb k a)) u (ap not (ne_eqb k a v))))
-      (cases_eq k a))
-      (and_cases (member x a) (not (eqb k a)) (sym (t.rest a b) ∙ z))
-
-  -- the lowest label that finds something
-  pub left_is : (x k y : ℕ) (v : A) → Left x → Taken x k y → f k ≡ Some v → first_some f 64 0 ≡ Some v
-  left_is x k y v h t e = first_is 64 k v t.lowest.visible (λ i l. h i (let z = t.lowest.visible in omega arith) (t.lowest.none_below i l)) e
-
-  -- no label is left
-  pub left_none : (x : ℕ) → x ≡ 0 → Left x → first_some f 64 0 ≡ None
-  left_none x z h = first_none 64 (λ a b. h a b (ap (λ (y : ℕ). member y a) z ∙ member_none a))
 
 module _ {A : Type 0} (f g : ℕ → Option A) where
   from_same : (n j : ℕ) → ((i : ℕ) → i < n + j → f i ≡ g i) → first_some f n j ≡ first_some g n j

@@ -1,7 +1,9 @@
 pub mod Somes
 pub mod Firsts
+pub mod Searching
 pub mod Unmoved
 pub mod Covering
 pub mod Agreeing
 pub mod Reading
+pub mod Rows
 pub mod Passing

@@ -1,12 +1,13 @@
 -- What the bytes of a workspace say of its machines.
-use Rattle.std.proofs.Common.{◌≡◌, ℕ, suc, ◌+◌, ◌*◌, ◌<◌, ◌≤◌, Bool, true, false, cond, ◌&&◌, eqb, ltb, leb, List, length, get_or, drop, None, refl, ap, ◌∙◌, mul-le-mul_right, suc-mul, arith}
+use Rattle.std.proofs.Common.{◌≡◌, ℕ, suc, ◌+◌, ◌*◌, ◌<◌, ◌≤◌, Bool, true, false, cond, ◌&&◌, eqb, ltb, leb, List, length, get_or, drop, is_some, None, refl, ap, ◌∙◌, mul-le-mul_right, suc-mul, arith}
 use Rattle.std.proofs.lemmas.Bool.{cond-true, cond-false, ne_eqb, and_from, lt-ltb, le-leb}
-use Rattle.lts.specs.Machines.{Machine, told_size, tau_reaches}
+use Rattle.lts.specs.Machines.{Machine, told_size, stable, tau_reaches}
 use Rattle.closure.specs.Sheets.{Closed, cells}
-use Rattle.clauses.specs.Ranks.{reads, rank_at, rank_in, stood_by}
-use Rattle.clauses.specs.Candidates.{first_by, first_failing}
-use Rattle.clauses.specs.Workspaces.{pairs, base, Prepared, stood_in, first_in}
-use Rattle.clauses.proofs.Agreeing.{first_agrees}
+use Rattle.clauses.specs.Ranks.{reads, row_reads, rank_at, rank_in}
+use Rattle.clauses.specs.Candidates.{rest_fails, rest_on, first_rest_at, first_failing}
+use Rattle.clauses.specs.Workspaces.{pairs, base, Prepared, RowOf, stood_in, first_in}
+use Rattle.clauses.specs.Uncovered.{uncovered_by}
+use Rattle.clauses.proofs.Agreeing.{at_same, first_agrees}
 
 -- row p of the ranks lies inside
 pub rows_fit : (p n m k : ℕ) → p < n → 2 * (n * m) ≤ k → 2 * (p * m + m) ≤ k
@@ -44,16 +45,6 @@ module _ (M N : Machine) (n m : ℕ) (en : n ≡ M.size) (em : m ≡ N.size) whe
   pub pairs_same : n * m ≡ pairs M N
   pairs_same = ap (λ (x : ℕ). x * m) en ∙ ap (λ (x : ℕ). M.size * x) em
 
-  -- what the code reads is what the workspace holds
-  pub found_read : (w : List ℕ) (k p q : ℕ) →
-      first_by M N (reads w n) (reads (drop (n * n) w) m) (λ a b. stood_by k (rank_at (drop (n * n + m * m) w) (a * m + b))) p q
-      ≡ first_by M N (reads w M.size) (reads (drop (cells M) w) N.size) (stood_in M N k w) p q
-  found_read w k p q =
-      ap (λ (x : ℕ). first_by M N (reads w x) (reads (drop (n * n) w) m) (λ a b. stood_by k (rank_at (drop (n * n + m * m) w) (a * m + b))) p q) en
-      ∙ ap (λ (x : ℕ). first_by M N (reads w M.size) (reads (drop x w) m) (λ a b. stood_by k (rank_at (drop (n * n + m * m) w) (a * m + b))) p q) square
-      ∙ ap (λ (x : ℕ). first_by M N (reads w M.size) (reads (drop (cells M) w) m) (λ a b. stood_by k (rank_at (drop x w) (a * m + b))) p q) base_same
-      ∙ ap (λ (x : ℕ). first_by M N (reads w M.size) (reads (drop (cells M) w) x) (λ a b. stood_by k (rank_at (drop (base M N) w) (a * x + b))) p q) em
-
 -- in a workspace that holds the closures it is what fails
 pub found_failing : (M N : Machine) (w : List ℕ) (k p q : ℕ) → Prepared M N w → p < M.size → q < N.size → first_in M N w k p q ≡ first_failing M N (stood_in M N k w) p q
 unfolding first_in first_failing
@@ -64,3 +55,12 @@ found_failing M N w k p q r h l =
     (λ t b. reads_closed M w M.size p t refl r.first h b)
     (λ t b. reads_closed N (drop (cells M) w) N.size q t refl r.second l b)
     (λ a b _ _. refl)
+
+-- by its row alone, what a state of the contract leaves uncovered
+pub uncovered_row : (M N : Machine) (sheet row : List ℕ) (q p : ℕ) → RowOf N sheet q row → uncovered_by M N (row_reads row) 0 p ≡ uncovered_by M N (reads sheet N.size) q p
+unfolding uncovered_by first_rest_at rest_on rest_fails
+uncovered_row M N sheet row q p r =
+    ap (λ o. stable M p && is_some o) (any_number ∙ at_same M N p q (tau_reaches M) (tau_reaches M) (row_reads row) (reads sheet N.size) (λ _ _. true) (λ _ _. true) (λ _ _. refl) r.same (λ _ _ _ _. refl) p)
+  where
+    any_number : first_rest_at M N (row_reads row) 0 p ≡ first_rest_at M N (row_reads row) q p
+    any_number = refl

@@ -1,6 +1,14 @@
 -- Tests of the numbers below a bound that a loop raises.
-use Rattle.std.proofs.Common.{◌≡◌, ℕ, zero, suc, ◌+◌, ◌<◌, Bool, true, false, ◌||◌, sym, refl, ap, ◌∙◌, subst, ⊎_elim, add-one, arith}
-use Rattle.std.proofs.lemmas.Bool.{or_from, both_ways, cases_Bool, and_parts, and_from, cases_eq}
+use Rattle.std.proofs.Common.{◌≡◌, ℕ, zero, suc, ◌+◌, ◌<◌, Bool, true, false, ◌||◌, List, Option, MatchOption, sym, refl, ap, ◌∙◌, subst, ⊎_elim, add-one, arith}
+use Rattle.std.proofs.lemmas.Bool.{both_ways, cases_Bool, and_parts, and_from, cases_eq}
+use Rattle.std.specs.Fn.{Called}
+use Rattle.std.specs.Iterator.{YieldsThen}
+use Rattle.std.specs.List.{FoldsTo, list_any, range_with_len}
+use Rattle.std.proofs.iter.Yields.{nat_range_steps}
+use Rattle.std.proofs.lemmas.Iterator.{YieldsList-from_range}
+use Rattle.std.proofs.lemmas.Iterator.Search.{any_from_yields_List}
+use Rattle.std.specs.declared.ops.Range.{Range}
+use denote.Param.Members.{Mut}
 use Rattle.lts.specs.Machines.{some_below, each_below}
 use Rattle.lts.specs.Some.{same, some_in, some_out}
 
@@ -10,11 +18,6 @@ unfolding some_below
 some_first f = refl
 
 -- one more number that fails
-pub some_more : (n : ℕ) (f : ℕ → Bool) → some_below n f ≡ false → f n ≡ false → some_below (n + 1) f ≡ false
-unfolding some_below
-some_more n f e h = rw add-one (or_from (f n) (some_below n f) h e)
-
--- the same, whatever came before
 pub some_next : (n : ℕ) (f : ℕ → Bool) → f n ≡ false → some_below (n + 1) f ≡ some_below n f
 unfolding some_below
 some_next n f h = rw add-one (ap (λ (b : Bool). b || some_below n f) h)
@@ -30,6 +33,12 @@ or_swap true true c e = refl
 or_swap true false c e = refl
 or_swap false true c e = sym e
 or_swap false false c e = sym e
+
+-- the second of three in front
+or_turn : (a b c : Bool) → (a || (b || c)) ≡ (b || (a || c))
+or_turn true true c = refl
+or_turn true false c = refl
+or_turn false b c = refl
 
 -- where none passes, each fails
 pub none_at : (n : ℕ) (f : ℕ → Bool) → some_below n f ≡ false → (k : ℕ) → k < n → f k ≡ false
@@ -72,3 +81,25 @@ each_alike n f g h =
     same (each_below n f) (each_below n g)
     (λ e. each_in n g (λ k l. sym (h k l) ∙ each_out n f e k l))
     (λ e. each_in n f (λ k l. h k l ∙ each_out n g e k l))
+
+-- the first number apart from the others
+some_front : (n : ℕ) (f : ℕ → Bool) → some_below (suc n) f ≡ (f 0 || some_below n (λ k. f (suc k)))
+unfolding some_below
+some_front zero f = refl
+some_front (suc n) f = ap (λ (b : Bool). f (suc n) || b) (some_front n f) ∙ or_turn (f (suc n)) (f 0) (some_below n (λ k. f (suc k)))
+
+-- a test of the numbers of a range, in order
+range_any : (f : ℕ → Bool) (n a : ℕ) → list_any f (range_with_len a n) ≡ some_below n (λ k. f (a + k))
+unfolding some_below
+range_any f zero a = refl
+range_any f (suc n) a =
+    ap (λ (b : Bool). f a || b) (range_any f n (a + 1) ∙ some_alike n (λ k. f (a + 1 + k)) (λ k. f (a + suc k)) (λ k _. ap f (omega arith)))
+    ∙ ap (λ (x : ℕ). f x || some_below n (λ k. f (a + suc k))) (omega arith) ∙ sym (some_front n (λ k. f (a + k)))
+
+-- what `any` answers over the numbers below n
+pub any_below : {F : Type 0} {g : Mut F (ℕ × Unit {0}) Bool} {s : Range ℕ} (n : ℕ) (test : ℕ → Bool) (u : Range ℕ) (h : F) (r : Bool) →
+    (xs : List ℕ) × (o : Option ℕ) × (j : F) × YieldsThen nat_range_steps s xs o u × FoldsTo (λ p x q. Called g p (x, tt) false q) h xs j × MatchOption o (r ≡ false) (λ x. (r ≡ true) × ((i : F) × Called g j (x, tt) true i)) →
+    s ≡ record { start = 0; end = n } → ((x : ℕ) (b : Bool) (q : F) → Called g h (x, tt) b q → (q ≡ h) × (b ≡ test x)) → r ≡ some_below n test
+any_below n test u h r ran e calls =
+    any_from_yields_List test u h r ran (YieldsList-from_range 0 n n e (omega arith)) calls
+    ∙ range_any test n 0 ∙ some_alike n (λ k. test (0 + k)) test (λ k _. ap test (omega arith))

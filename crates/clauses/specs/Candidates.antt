@@ -1,6 +1,7 @@
 -- The candidates of a pair (p, q) of states, in order, and the first that fails against the pairs S. R and U tell where
 -- silent moves lead in the two machines: what a closure holds, or `tau_reaches` itself.
-use Rattle.std.specs.Prelude.{ℕ, zero, suc, Bool, cond, not, ◌&&◌, Some, None, Option, nat_lt}
+use Rattle.std.specs.Prelude.{◌≡◌, ℕ, zero, suc, ◌<◌, Bool, true, cond, not, ◌&&◌, Some, None, Option, nat_lt}
+use Rattle.lts.specs.Labels.{member}
 use Rattle.lts.specs.Machines.{Machine, some_below, each_below, implies, tau_reaches, stable, initial}
 use Rattle.lts.specs.Conformance.{covers}
 use Rattle.clauses.specs.declared.counterexample.Counterexample.{Counterexample}
@@ -36,6 +37,11 @@ first_move M N R U S p q = first_some (first_move_on M N R U S p q) 64 0
 -- silent moves of q lead to v, which is stable and has no initials but those in the set
 unfoldable pub rests_at : Machine → (ℕ → ℕ → Bool) → ℕ → (ℕ → Bool) → ℕ → Bool
 rests_at N U q allowed v = U q v && (stable N v && each_below 64 (λ l. implies (initial N v l) (allowed l)))
+
+-- some state below k passes the test, and the labels y are all initials of those that do
+pub record AllInitials (N : Machine) (k : ℕ) (test : ℕ → Bool) (y : ℕ) : Type 0 where
+  pub some : some_below k test ≡ true
+  pub labels : (l : ℕ) → l < 64 → member y l ≡ some_below k (λ v. test v && initial N v l)
 
 -- p' is ready on y, and silent moves of q lead to no state that covers it; 64 stands for no label
 unfoldable pub rest_fails : Machine → Machine → (ℕ → ℕ → Bool) → ℕ → ℕ → ℕ → Bool

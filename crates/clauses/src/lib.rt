@@ -3,6 +3,8 @@
 
 pub mod counterexample;
 mod moves;
+mod pair;
+mod place;
 pub mod ranks;
 pub mod rests;
 pub mod scan;

@@ -8,7 +8,7 @@ pub fn rank(ranks: &[u8], i: usize) -> u16
     ensures { result ≡ rank_in ranks.now i }
 {
     if i < ranks.len() / 2 {
-        ranks[2 * i] as u16 + 256 * ranks[2 * i + 1] as u16
+        u16::from_le_bytes([ranks[2 * i], ranks[2 * i + 1]])
     } else {
         0
     }
