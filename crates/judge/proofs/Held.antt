@@ -1,19 +1,20 @@
 -- What is read from a workspace that holds the final ranks.
-use Rattle.std.proofs.Common.{◌≡◌, ℕ, zero, suc, ◌+◌, ◌-◌, ◌*◌, ◌/◌, ◌%◌, ◌<◌, List, [], ◌∷◌, ◌++◌, length, get_or, take, drop, Some, None, sym, refl, ap, ◌∙◌, subst, arith, length-append, length-drop}
+use Rattle.std.proofs.Common.{◌≡◌, ℕ, zero, suc, ◌+◌, ◌-◌, ◌*◌, ◌/◌, ◌%◌, ◌<◌, List, [], ◌∷◌, ◌++◌, length, get_or, drop, Some, None, sym, refl, ap, ◌∙◌, subst, arith, length-append, length-drop}
 use lib.Arith.{digits_lt}
 use Rattle.std.proofs.lemmas.List.{drop-drop, drop_at, ext_get_or}
-use Rattle.lts.specs.Machines.{Machine, Sound, Fits, tau_reaches}
+use Rattle.lts.specs.Machines.{Machine, Sound, Fits, told_size, tau_reaches}
 use Rattle.closure.specs.Sheets.{cells, closure_sheet, Closed}
 use Rattle.closure.proofs.Sheets.{length_sheet, sheet_closed}
-use Rattle.clauses.specs.Ranks.{rank_at, stood_by}
+use Rattle.clauses.specs.Ranks.{rank_at, rank_in, stood_by}
 use Rattle.clauses.specs.Candidates.{first_failing}
-use Rattle.clauses.specs.Workspaces.{pairs, base, stood_in}
+use Rattle.clauses.specs.Workspaces.{pairs, base, stood_in, first_in}
 use Rattle.clauses.specs.declared.counterexample.Counterexample.{Counterexample}
 use Rattle.clauses.proofs.Agreeing.{first_agrees}
+use Rattle.clauses.proofs.Reading.{rank_told, told_here, found_failing}
 use Rattle.ranks.specs.Rounds.{stands, ranks_after, final_ranks, ranks_in}
 use Rattle.ranks.specs.Filled.{laid, total, whole}
 use Rattle.ranks.proofs.After.{length_ranks, pair_in}
-use Rattle.ranks.proofs.Placed.{ranks_at, length_in, part_same}
+use Rattle.ranks.proofs.Placed.{ranks_at, length_in}
 use Rattle.judge.specs.Verdicts.{start_rank, no_by, answer_by, answer, Holding}
 use Rattle.judge.specs.declared.verdict.Answer.TheVariants.{Yes, No}
 use Rattle.judge.proofs.Struck.{stood_final, struck_some}
@@ -73,6 +74,12 @@ module _ (M N : Machine) where
     pub final_at : (i : ℕ) → i < pairs M N → rank_at (drop (base M N) w) i ≡ get_or (final_ranks M N) i 0
     final_at i b = sym (ranks_at M N w i b) ∙ ap (λ (v : List ℕ). get_or v i 0) h.ranks
 
+    -- as the code reads it
+    pub read_rank : (ranks : List ℕ) (i : ℕ) → ranks ≡ drop (base M N) w → i < pairs M N → rank_in ranks i ≡ get_or (final_ranks M N) i 0
+    read_rank ranks i e b =
+        let r = h.ready.room in
+        ap (λ (v : List ℕ). rank_in v i) e ∙ rank_told (drop (base M N) w) i _ refl (omega (arith, length-drop (base M N) w)) ∙ final_at i b
+
     -- the bytes tell what stood before the round that struck a pair
     pub failing_same : (k p q : ℕ) → p < M.size → q < N.size → get_or (final_ranks M N) (p * N.size + q) 0 ≡ suc k →
         first_failing M N (stood_in M N (suc k) w) p q ≡ first_failing M N (stands N (ranks_after M N k)) p q
@@ -86,8 +93,13 @@ module _ (M N : Machine) where
 pub start_in : (M : Machine) → Sound M → Fits M → M.start < M.size
 start_in M s f = let b = s.begins in omega arith
 
--- the answer, by what is read
-module _ (M N : Machine) (s : Sound M) (u : Sound N) (w : List ℕ) (h : Holding M N w) (n m : ℕ) (en : n ≡ M.size) (em : m ≡ N.size) where
+-- the answer of a pair that stands
+pub answer_yes : (M N : Machine) → start_rank M N ≡ 0 → Yes ≡ answer M N
+unfolding answer
+answer_yes M N e = sym (ap (answer_by M N) e)
+
+-- what is read of the starts
+module _ (M N : Machine) (s : Sound M) (u : Sound N) (w : List ℕ) (h : Holding M N w) where
   sp : M.start < M.size
   sp = start_in M s h.some
 
@@ -95,30 +107,28 @@ module _ (M N : Machine) (s : Sound M) (u : Sound N) (w : List ℕ) (h : Holding
   sq : N.start < N.size
   sq = start_in N u h.more
 
-  -- the rank of the starts is there
-  pub read_part : (p q : ℕ) → p ≡ M.start → q ≡ N.start → 2 * (p * m + q) + 1 < length (take (length w - (n * n + m * m)) (drop (n * n + m * m) w))
-  read_part p q ep eq =
-      let z : p * m + q ≡ M.start * N.size + N.start = ap (λ (x : ℕ). x * m + q) ep ∙ ap (λ (x : ℕ). M.start * x + q) em ∙ ap (λ (x : ℕ). M.start * N.size + x) eq in
-      let l : M.start * N.size + N.start < pairs M N = digits_lt sp sq in
-      let r = h.ready.room in
-      omega (arith, ap length (part_same M N n m w en em), length-drop (base M N) w)
+  -- the rank of the starts
+  pub read_start : (ranks : List ℕ) (m p q : ℕ) → ranks ≡ drop (base M N) w → m ≡ told_size N → p ≡ M.start → q ≡ N.start → rank_in ranks (p * m + q) ≡ start_rank M N
+  read_start ranks m p q er em ep eq =
+      let z : p * m + q ≡ M.start * N.size + N.start =
+      ap (λ (x : ℕ). x * m + q) ep ∙ ap (λ (x : ℕ). M.start * x + q) (told_here N m N.start em sq) ∙ ap (λ (x : ℕ). M.start * N.size + x) eq in
+      ap (rank_in ranks) z ∙ read_rank M N w h ranks (M.start * N.size + N.start) er (digits_lt sp sq)
 
-  -- and is read
-  pub read_start : (p q : ℕ) → p ≡ M.start → q ≡ N.start → rank_at (take (length w - (n * n + m * m)) (drop (n * n + m * m) w)) (p * m + q) ≡ start_rank M N
-  read_start p q ep eq =
-      let z : p * m + q ≡ M.start * N.size + N.start = ap (λ (x : ℕ). x * m + q) ep ∙ ap (λ (x : ℕ). M.start * x + q) em ∙ ap (λ (x : ℕ). M.start * N.size + x) eq in
-      ap (λ (v : List ℕ). rank_at v (p * m + q)) (part_same M N n m w en em) ∙ ap (rank_at (drop (base M N) w)) z ∙ final_at M N w h (M.start * N.size + N.start) (digits_lt sp sq)
+  -- a pair that is struck has a candidate that fails, and the code finds it
+  module _ (r p q : ℕ) (e : r ≡ start_rank M N) (struck : r ≡ 0 → ⊥) (ep : p ≡ M.start) (eq : q ≡ N.start) where
+    er : r ≡ suc (r - 1)
+    er = omega arith
 
-  -- a pair that stands
-  pub answer_yes : start_rank M N ≡ 0 → Yes ≡ answer M N
-  unfolding answer
-  answer_yes e = sym (ap (answer_by M N) e)
+    found_same : first_in M N w r p q ≡ first_failing M N (stands N (ranks_after M N (r - 1))) M.start N.start
+    found_same =
+        ap (λ (x : ℕ). first_in M N w r x q) ep ∙ ap (first_in M N w r M.start) eq
+        ∙ found_failing M N w r M.start N.start h.ready sp sq
+        ∙ ap (λ (x : ℕ). first_failing M N (stood_in M N x w) M.start N.start) er
+        ∙ failing_same M N w h (r - 1) M.start N.start sp sq (sym e ∙ er)
 
-  module _ (k : ℕ) (e : start_rank M N ≡ suc k) where
-    pub answer_no : (c : Counterexample) → Some c ≡ first_failing M N (stood_in M N (suc k) w) M.start N.start → No (suc k) c ≡ answer M N
+    pub answer_no : (c : Counterexample) → Some c ≡ first_in M N w r p q → No r c ≡ answer M N
     unfolding answer
-    answer_no c z = sym (ap (answer_by M N) e ∙ ap (no_by (suc k)) (sym (failing_same M N w h k M.start N.start sp sq e) ∙ sym z))
+    answer_no c z = ap (λ (x : ℕ). No x c) er ∙ sym (ap (answer_by M N) (sym e ∙ er) ∙ ap (no_by (suc (r - 1))) (sym found_same ∙ sym z))
 
-    -- a pair that is struck has a candidate that fails
-    pub never_none : None ≡ first_failing M N (stood_in M N (suc k) w) M.start N.start → ⊥
-    never_none z = struck_some M N k M.start N.start sp sq e (sym (failing_same M N w h k M.start N.start sp sq e) ∙ sym z)
+    pub never_none : None ≡ first_in M N w r p q → ⊥
+    never_none z = struck_some M N (r - 1) M.start N.start sp sq (sym e ∙ er) (sym found_same ∙ sym z)

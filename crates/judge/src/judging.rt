@@ -1,12 +1,12 @@
-ghost use Rattle.std.specs.Prelude.{◌≡◌, ℕ, ◌+◌, ◌*◌, ◌<◌, ◌≤◌, length};
+ghost use Rattle.std.specs.Prelude.{◌≡◌, length, drop};
 ghost use Rattle.lts.specs.Machines.{Machine};
-ghost use Rattle.clauses.specs.Ranks.{rank_at};
+ghost use Rattle.clauses.specs.Workspaces.{base};
 ghost use Rattle.dense.specs.Copies.{meaning};
 ghost use Rattle.ranks.specs.Rounds.{last_round};
 ghost use Rattle.ranks.specs.Filled.{workspace_after};
 ghost use Rattle.judge.specs.Cases.{WorkedCases};
 ghost use Rattle.judge.specs.Promises.{FindsTheLargest, ContextKeepsYes, CounterexampleFails};
-ghost use Rattle.judge.specs.Verdicts.{zeros_below, Holding, answer, verdict, judged};
+ghost use Rattle.judge.specs.Verdicts.{start_rank, Holding, answer, verdict, judged};
 
 use crate::verdict::{Answer, Verdict};
 use clauses::counterexample::Counterexample;
@@ -18,56 +18,75 @@ use ranks::filling::fill_copied;
 use source::refusal::Refusal;
 use source::source::Source;
 
-/// How many of the pairs stand.
-fn count_standing(ranks: &[u8], all: usize) -> u16
-    requires { (2 * all ≤ length ranks.now) × (all ≤ 65025) }
-    ensures { result ≡ zeros_below all (rank_at ranks.now) }
-{
-    let mut count = 0;
-    for i in 0..all {
-        if rank(ranks, i) == 0 {
-            count += 1;
-        }
-    }
-    count
+/// Two machines, and a workspace that holds their closures and final ranks.
+#[derive(Drop)]
+struct Filled<'a> {
+    module: &'a Dense,
+    contract: &'a Dense,
+    workspace: &'a [u8],
+    ghost holding: { Holding (meaning «module».now) (meaning contract.now) workspace.now },
 }
 
-/// The answer that the ranks of a filled workspace give.
-fn read_answer(module: &Dense, contract: &Dense, n: usize, m: usize, workspace: &[u8]) -> Answer
-    requires states { n ≡ (meaning «module».now).size }
-    requires others { m ≡ (meaning contract.now).size }
-    requires holding { Holding (meaning «module».now) (meaning contract.now) workspace.now }
-    ensures { result ≡ answer (meaning «module».now) (meaning contract.now) }
-{
-    let p = module.start();
-    let q = contract.start();
-    let round = rank(&workspace[n * n + m * m..], p * m + q);
-    if round == 0 {
-        return Answer::Yes;
+impl Filled<'_> {
+    /// The ranks, behind the two closures.
+    fn ranks(&self) -> &[u8]
+        ensures { result.now ≡ drop (base (meaning self.now.«module».now) (meaning self.now.contract.now)) self.now.workspace.now }
+    {
+        let n = self.module.size() as usize;
+        let m = self.contract.size() as usize;
+        &self.workspace[n * n + m * m..]
     }
-    match first_failing_copied(module, contract, workspace, round, p, q) {
-        Some(counterexample) => Answer::No {
+
+    /// How many of the pairs stand.
+    fn standing(&self) -> u16
+        ensures { result ≡ (verdict (meaning self.now.«module».now) (meaning self.now.contract.now)).standing }
+    {
+        let all = self.module.size() as usize * self.contract.size() as usize;
+        let ranks = self.ranks();
+        (0..all).filter(|i| rank(ranks, *i) == 0).count() as u16
+    }
+
+    /// The round that struck the pair of the starts, or 0 where it stands.
+    fn round(&self) -> u16
+        ensures { result ≡ start_rank (meaning self.now.«module».now) (meaning self.now.contract.now) }
+    {
+        let m = self.contract.size() as usize;
+        let starts = self.module.start() * m + self.contract.start();
+        rank(self.ranks(), starts)
+    }
+
+    /// The answer that the ranks give.
+    fn answer(&self) -> Answer
+        ensures { result ≡ answer (meaning self.now.«module».now) (meaning self.now.contract.now) }
+    {
+        let round = self.round();
+        if round == 0 {
+            return Answer::Yes;
+        }
+        let p = self.module.start();
+        let q = self.contract.start();
+        let found = first_failing_copied(self.module, self.contract, self.workspace, round, p, q);
+        let Some(counterexample) = found else {
+            unreachable!()
+        };
+        Answer::No {
             round,
             counterexample,
-        },
-        None => unreachable(),
+        }
     }
-}
 
-/// The verdict that a filled workspace gives.
-fn read_verdict(module: &Dense, contract: &Dense, workspace: &[u8], highest: u16) -> Verdict
-    requires holding { Holding (meaning «module».now) (meaning contract.now) workspace.now }
-    requires last { highest ≡ last_round (meaning «module».now) (meaning contract.now) }
-    ensures { result ≡ verdict (meaning «module».now) (meaning contract.now) }
-{
-    let n = module.size() as usize;
-    let m = contract.size() as usize;
-    Verdict {
-        states: n,
-        others: m,
-        highest,
-        standing: count_standing(&workspace[n * n + m * m..], n * m),
-        answer: read_answer(module, contract, n, m, workspace),
+    /// The verdict, where the round struck last.
+    fn verdict(&self, highest: u16) -> Verdict
+        requires { highest ≡ last_round (meaning self.now.«module».now) (meaning self.now.contract.now) }
+        ensures { result ≡ verdict (meaning self.now.«module».now) (meaning self.now.contract.now) }
+    {
+        Verdict {
+            states: self.module.size() as usize,
+            others: self.contract.size() as usize,
+            highest,
+            standing: self.standing(),
+            answer: self.answer(),
+        }
     }
 }
 
@@ -87,10 +106,13 @@ pub fn judge<R: Relation, P: Source, Q: Source>(
     actual.copy(module);
     let mut promised = Dense::none();
     promised.copy(contract);
-    match fill_copied(&actual, &promised, workspace) {
-        Ok(highest) => Ok(read_verdict(&actual, &promised, workspace, highest)),
-        Err(refusal) => Err(refusal),
-    }
+    let highest = fill_copied(&actual, &promised, workspace)?;
+    let filled = Filled {
+        module: &actual,
+        contract: &promised,
+        workspace,
+    };
+    Ok(filled.verdict(highest))
 }
 
 /// Small machines, and what is answered of them.

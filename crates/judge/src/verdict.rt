@@ -1,6 +1,7 @@
 pub use clauses::counterexample::Counterexample;
 
 /// Whether the module conforms.
+// Not an Option or a Result: a yes and a no are both answers, and a no is no error.
 #[derive(Clone, Copy, PartialEq, Eq, Debug)]
 pub enum Answer {
     Yes,
