@@ -1,7 +1,7 @@
 -- What the bytes of a workspace say of its machines.
 use Rattle.std.proofs.Common.{◌≡◌, ℕ, suc, ◌+◌, ◌*◌, ◌<◌, ◌≤◌, Bool, true, false, cond, ◌&&◌, eqb, ltb, leb, List, length, get_or, drop, is_some, None, refl, ap, ◌∙◌, mul-le-mul_right, suc-mul, arith}
-use Rattle.std.proofs.lemmas.Bool.{cond-true, cond-false, ne_eqb, and_from, lt-ltb, le-leb}
-use Rattle.lts.specs.Machines.{Machine, told_size, stable, tau_reaches}
+use Rattle.std.proofs.lemmas.Bool.{cond-true, and_from, lt-ltb, le-leb}
+use Rattle.lts.specs.Machines.{Machine, stable, tau_reaches}
 use Rattle.closure.specs.Sheets.{Closed, cells}
 use Rattle.clauses.specs.Ranks.{reads, row_reads, rank_at, rank_in}
 use Rattle.clauses.specs.Candidates.{rest_fails, rest_on, first_rest_at, first_failing}
@@ -18,10 +18,6 @@ rows_fit p n m k h l =
 -- a rank that there is room for
 pub rank_told : (bytes : List ℕ) (i r : ℕ) → r ≡ rank_in bytes i → 2 * i + 1 < length bytes → r ≡ rank_at bytes i
 rank_told bytes i r e h = e ∙ cond-true (ltb (2 * i + 1) (length bytes)) (rank_at bytes i) 0 (lt-ltb (2 * i + 1) (length bytes) h)
-
--- a machine with a state is not too large
-pub told_here : (M : Machine) (n p : ℕ) → n ≡ told_size M → p < M.size → n ≡ M.size
-told_here M n p e h = e ∙ cond-false (eqb M.size 0) 256 M.size (ne_eqb M.size 0 (λ z. omega arith))
 
 -- a byte of a closure tells its test
 bit : (b : Bool) → eqb (cond b 1 0) 1 ≡ b

@@ -11,6 +11,7 @@ use Rattle.std.specs.declared.ops.Range.{Range}
 use denote.Param.Members.{Mut}
 use Rattle.lts.specs.Machines.{some_below, each_below}
 use Rattle.lts.specs.Some.{same, some_in, some_out}
+pub use Rattle.dense.proofs.Tests.{some_alike}
 
 -- no number is below 0
 pub some_first : (f : ℕ → Bool) → some_below 0 f ≡ false
@@ -43,13 +44,6 @@ or_turn false b c = refl
 -- where none passes, each fails
 pub none_at : (n : ℕ) (f : ℕ → Bool) → some_below n f ≡ false → (k : ℕ) → k < n → f k ≡ false
 none_at n f e k h = ⊎_elim (λ (t : f k ≡ true). absurd (both_ways (some_below n f) e (some_in n f k h t))) (λ t. t) (cases_Bool (f k))
-
--- tests that agree
-pub some_alike : (n : ℕ) (f g : ℕ → Bool) → ((k : ℕ) → k < n → f k ≡ g k) → some_below n f ≡ some_below n g
-some_alike n f g e =
-    same (some_below n f) (some_below n g)
-    (λ t. let o = some_out n f t in some_in n g o.0 o.1 (sym (e o.0 o.1) ∙ o.2))
-    (λ t. let o = some_out n g t in some_in n f o.0 o.1 (e o.0 o.1 ∙ o.2))
 
 -- no number passes
 pub all_fail : (n : ℕ) (f : ℕ → Bool) → ((k : ℕ) → k < n → f k ≡ false) → some_below n f ≡ false

@@ -23,8 +23,8 @@ impl<'a, S: Source> Place<'a, S> {
     pub(crate) fn find(machine: &'a S, sheet: &'a [u8], state: usize) -> Option<Place<'a, S>>
         ensures { MatchOption result (NoRow (S.Source.means machine.now) sheet.now state) (λ place. (place.machine.now ≡ machine.now) × RowOf (S.Source.means machine.now) sheet.now state place.row.now) }
     {
-        let n = machine.size() as usize;
-        if n == 256 || state >= n || sheet.len() < n * n {
+        let n = machine.states()?;
+        if state >= n || sheet.len() < n * n {
             return None;
         }
         let row = &sheet[state * n..state * n + n];

@@ -18,7 +18,7 @@ use source::source::Source;
 fn inside(labels: LabelSet, others: LabelSet) -> bool
     ensures { result ≡ each_below 64 (λ l. implies (member labels.0 l) (member others.0 l)) }
 {
-    labels.union(others).bits() == others.bits()
+    labels.union(others) == others
 }
 
 impl<Q: Source> Place<'_, Q> {

@@ -2,7 +2,7 @@
 use Rattle.std.proofs.Common.{◌≡◌, ℕ, zero, suc, ◌+◌, ◌-◌, ◌*◌, ◌/◌, ◌%◌, ◌<◌, List, [], ◌∷◌, ◌++◌, length, get_or, drop, Some, None, sym, refl, ap, ◌∙◌, subst, arith, length-append, length-drop}
 use lib.Arith.{digits_lt}
 use Rattle.std.proofs.lemmas.List.{drop-drop, drop_at, ext_get_or}
-use Rattle.lts.specs.Machines.{Machine, Sound, Fits, told_size, tau_reaches}
+use Rattle.lts.specs.Machines.{Machine, Sound, Fits, tau_reaches}
 use Rattle.closure.specs.Sheets.{cells, closure_sheet, Closed}
 use Rattle.closure.proofs.Sheets.{length_sheet, sheet_closed}
 use Rattle.clauses.specs.Ranks.{rank_at, rank_in, stood_by}
@@ -10,7 +10,7 @@ use Rattle.clauses.specs.Candidates.{first_failing}
 use Rattle.clauses.specs.Workspaces.{pairs, base, stood_in, first_in}
 use Rattle.clauses.specs.declared.counterexample.Counterexample.{Counterexample}
 use Rattle.clauses.proofs.Agreeing.{first_agrees}
-use Rattle.clauses.proofs.Reading.{rank_told, told_here, found_failing}
+use Rattle.clauses.proofs.Reading.{rank_told, found_failing}
 use Rattle.ranks.specs.Rounds.{stands, ranks_after, final_ranks, ranks_in}
 use Rattle.ranks.specs.Filled.{laid, total, whole}
 use Rattle.ranks.proofs.After.{length_ranks, pair_in}
@@ -108,10 +108,10 @@ module _ (M N : Machine) (s : Sound M) (u : Sound N) (w : List ℕ) (h : Holding
   sq = start_in N u h.more
 
   -- the rank of the starts
-  pub read_start : (ranks : List ℕ) (m p q : ℕ) → ranks ≡ drop (base M N) w → m ≡ told_size N → p ≡ M.start → q ≡ N.start → rank_in ranks (p * m + q) ≡ start_rank M N
+  pub read_start : (ranks : List ℕ) (m p q : ℕ) → ranks ≡ drop (base M N) w → m ≡ N.size → p ≡ M.start → q ≡ N.start → rank_in ranks (p * m + q) ≡ start_rank M N
   read_start ranks m p q er em ep eq =
       let z : p * m + q ≡ M.start * N.size + N.start =
-      ap (λ (x : ℕ). x * m + q) ep ∙ ap (λ (x : ℕ). M.start * x + q) (told_here N m N.start em sq) ∙ ap (λ (x : ℕ). M.start * N.size + x) eq in
+      ap (λ (x : ℕ). x * m + q) ep ∙ ap (λ (x : ℕ). M.start * x + q) em ∙ ap (λ (x : ℕ). M.start * N.size + x) eq in
       ap (rank_in ranks) z ∙ read_rank M N w h ranks (M.start * N.size + N.start) er (digits_lt sp sq)
 
   -- a pair that is struck has a candidate that fails, and the code finds it

@@ -28,12 +28,21 @@ struct Filled<'a> {
 }
 
 impl Filled<'_> {
+    /// How many states each machine has.
+    fn sizes(&self) -> (usize, usize)
+        ensures { (result.0 ≡ (meaning self.now.«module».now).size) × (result.1 ≡ (meaning self.now.contract.now).size) }
+    {
+        (
+            usize::from(self.module.size()),
+            usize::from(self.contract.size()),
+        )
+    }
+
     /// The ranks, behind the two closures.
     fn ranks(&self) -> &[u8]
         ensures { result.now ≡ drop (base (meaning self.now.«module».now) (meaning self.now.contract.now)) self.now.workspace.now }
     {
-        let n = self.module.size() as usize;
-        let m = self.contract.size() as usize;
+        let (n, m) = self.sizes();
         &self.workspace[n * n + m * m..]
     }
 
@@ -41,16 +50,16 @@ impl Filled<'_> {
     fn standing(&self) -> u16
         ensures { result ≡ (verdict (meaning self.now.«module».now) (meaning self.now.contract.now)).standing }
     {
-        let all = self.module.size() as usize * self.contract.size() as usize;
+        let (n, m) = self.sizes();
         let ranks = self.ranks();
-        (0..all).filter(|i| rank(ranks, *i) == 0).count() as u16
+        (0..n * m).filter(|i| rank(ranks, *i) == 0).count() as u16
     }
 
     /// The round that struck the pair of the starts, or 0 where it stands.
     fn round(&self) -> u16
         ensures { result ≡ start_rank (meaning self.now.«module».now) (meaning self.now.contract.now) }
     {
-        let m = self.contract.size() as usize;
+        let (_, m) = self.sizes();
         let starts = self.module.start() * m + self.contract.start();
         rank(self.ranks(), starts)
     }
@@ -80,9 +89,10 @@ impl Filled<'_> {
         requires { highest ≡ last_round (meaning self.now.«module».now) (meaning self.now.contract.now) }
         ensures { result ≡ verdict (meaning self.now.«module».now) (meaning self.now.contract.now) }
     {
+        let (states, others) = self.sizes();
         Verdict {
-            states: self.module.size() as usize,
-            others: self.contract.size() as usize,
+            states,
+            others,
             highest,
             standing: self.standing(),
             answer: self.answer(),

@@ -21,7 +21,6 @@ returns c =
     let y = c.args.others.0 in
     let u = c.union.result.0 in
     let f : ℕ → Bool = λ l. implies (member x l) (member y l) in
-    ap (λ (k : ℕ). eqb k c.bits-2.result) c.bits.ensures ∙ ap (λ (k : ℕ). eqb u k) c.bits-2.ensures ∙
-    same (eqb u y) (each_below 64 f)
+    c.eq.ensures ∙ same (eqb u y) (each_below 64 f)
     (λ e. each_in 64 f (λ l h. to_implies (member x l) (member y l) (sym (c.union.ensures l) ∙ ap (λ (k : ℕ). member k l) (eqb-true u y e))))
     (λ e. eq-eqb u y (same_members 64 u y (omega arith) (omega arith) (λ l h. c.union.ensures l ∙ from_implies (member x l) (member y l) (each_out 64 f e l h))))

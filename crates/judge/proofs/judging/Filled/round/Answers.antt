@@ -8,4 +8,4 @@ pub returns : goal.returns
 returns c =
     let self = c.args.self.now in
     c.rank.ensures ∙ read_start (meaning self.module.now) (meaning self.contract.now) (meaning_sound self.module.now) (meaning_sound self.contract.now) self.workspace.now self.holding
-    c.ranks.result.now c.size-m.result c.start.result c.start-2.result c.ranks.ensures c.size-m.ensures c.start.ensures c.start-2.ensures
+    c.ranks.result.now c.sizes-m.result.1 c.start.result c.start-2.result c.ranks.ensures c.sizes-m.ensures.1 c.start.ensures c.start-2.ensures

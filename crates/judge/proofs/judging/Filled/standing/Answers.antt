@@ -1,11 +1,9 @@
-use Rattle.std.proofs.Common.{ℕ, ◌*◌, get_or, ap, ◌∙◌, rules}
+use Rattle.std.proofs.Common.{get_or, ◌∙◌, rules}
 use borrow.Author.Tests.{tests}
 use Rattle.dense.specs.Copies.{meaning}
 use Rattle.clauses.specs.Ranks.{rank_in}
 use Rattle.clauses.specs.Workspaces.{pairs}
-use Rattle.clauses.proofs.Reading.{told_here, pairs_same}
 use Rattle.ranks.specs.Rounds.{final_ranks}
-use Rattle.judge.specs.Verdicts.{zeros_below}
 use Rattle.judge.proofs.Held.{read_rank}
 use Rattle.judge.proofs.Zeros.{zeros_counted, zeros_same}
 use Rattle.judge.proofs.judging.Filled.standing.Goals as goal
@@ -15,9 +13,6 @@ returns c =
     let self = c.args.self.now in
     let M = meaning self.module.now in
     let N = meaning self.contract.now in
-    let n = c.size.result in
-    let m = c.size-2.result in
     let ranks = c.ranks-ranks.result.now in
-    zeros_counted (n * m) (rank_in ranks) c.count.result c.count.ensures.runs c.filter.ensures.runs (cc) (λ x b q k. search (rules, tests))
-    ∙ ap (λ (x : ℕ). zeros_below x (rank_in ranks)) (pairs_same M N n m (told_here M n 0 c.size.ensures self.holding.some) (told_here N m 0 c.size-2.ensures self.holding.more))
+    zeros_counted (pairs M N) (rank_in ranks) c.count.result c.count.ensures.runs c.filter.ensures.runs (cc) (λ x b q k. search (rules, tests))
     ∙ zeros_same (pairs M N) (rank_in ranks) (λ i. get_or (final_ranks M N) i 0) (λ i b. read_rank M N self.workspace.now self.holding ranks i c.ranks-ranks.ensures b)
