@@ -1,6 +1,7 @@
 pub mod Somes
 pub mod Firsts
 pub mod Searching
+pub mod Gathering
 pub mod Unmoved
 pub mod Covering
 pub mod Agreeing

@@ -1,5 +1,5 @@
 -- Tests of the numbers below a bound that a loop raises.
-use Rattle.std.proofs.Common.{◌≡◌, ℕ, zero, suc, ◌+◌, ◌<◌, Bool, true, false, ◌||◌, List, Option, MatchOption, sym, refl, ap, ◌∙◌, subst, ⊎_elim, add-one, arith}
+use Rattle.std.proofs.Common.{◌≡◌, ℕ, zero, suc, ◌+◌, ◌<◌, Bool, true, false, ◌||◌, List, Option, MatchOption, sym, refl, ap, ◌∙◌, subst, ⊎_elim, arith}
 use Rattle.std.proofs.lemmas.Bool.{both_ways, cases_Bool, and_parts, and_from, cases_eq}
 use Rattle.std.specs.Fn.{Called}
 use Rattle.std.specs.Iterator.{YieldsThen}
@@ -12,28 +12,6 @@ use denote.Param.Members.{Mut}
 use Rattle.lts.specs.Machines.{some_below, each_below}
 use Rattle.lts.specs.Some.{same, some_in, some_out}
 pub use Rattle.dense.proofs.Tests.{some_alike}
-
--- no number is below 0
-pub some_first : (f : ℕ → Bool) → some_below 0 f ≡ false
-unfolding some_below
-some_first f = refl
-
--- one more number that fails
-pub some_next : (n : ℕ) (f : ℕ → Bool) → f n ≡ false → some_below (n + 1) f ≡ some_below n f
-unfolding some_below
-some_next n f h = rw add-one (ap (λ (b : Bool). b || some_below n f) h)
-
--- one more number
-pub some_last : (n : ℕ) (f : ℕ → Bool) → some_below (n + 1) f ≡ (f n || some_below n f)
-unfolding some_below
-some_last n f = rw add-one refl
-
--- one more number, at which the test is known
-pub or_swap : (a b c : Bool) → b ≡ c → (a || c) ≡ (b || a)
-or_swap true true c e = refl
-or_swap true false c e = refl
-or_swap false true c e = sym e
-or_swap false false c e = sym e
 
 -- the second of three in front
 or_turn : (a b c : Bool) → (a || (b || c)) ≡ (b || (a || c))
@@ -83,7 +61,7 @@ some_front zero f = refl
 some_front (suc n) f = ap (λ (b : Bool). f (suc n) || b) (some_front n f) ∙ or_turn (f (suc n)) (f 0) (some_below n (λ k. f (suc k)))
 
 -- a test of the numbers of a range, in order
-range_any : (f : ℕ → Bool) (n a : ℕ) → list_any f (range_with_len a n) ≡ some_below n (λ k. f (a + k))
+pub range_any : (f : ℕ → Bool) (n a : ℕ) → list_any f (range_with_len a n) ≡ some_below n (λ k. f (a + k))
 unfolding some_below
 range_any f zero a = refl
 range_any f (suc n) a =

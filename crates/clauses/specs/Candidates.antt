@@ -38,10 +38,10 @@ first_move M N R U S p q = first_some (first_move_on M N R U S p q) 64 0
 unfoldable pub rests_at : Machine → (ℕ → ℕ → Bool) → ℕ → (ℕ → Bool) → ℕ → Bool
 rests_at N U q allowed v = U q v && (stable N v && each_below 64 (λ l. implies (initial N v l) (allowed l)))
 
--- some state below k passes the test, and the labels y are all initials of those that do
-pub record AllInitials (N : Machine) (k : ℕ) (test : ℕ → Bool) (y : ℕ) : Type 0 where
-  pub some : some_below k test ≡ true
-  pub labels : (l : ℕ) → l < 64 → member y l ≡ some_below k (λ v. test v && initial N v l)
+-- some state passes the test, and the labels y are all initials of those that do
+pub record AllInitials (N : Machine) (test : ℕ → Bool) (y : ℕ) : Type 0 where
+  pub some : some_below N.size test ≡ true
+  pub labels : (l : ℕ) → l < 64 → member y l ≡ some_below N.size (λ v. test v && initial N v l)
 
 -- p' is ready on y, and silent moves of q lead to no state that covers it; 64 stands for no label
 unfoldable pub rest_fails : Machine → Machine → (ℕ → ℕ → Bool) → ℕ → ℕ → ℕ → Bool

@@ -49,12 +49,10 @@ impl<'a, S: Source> Place<'a, S> {
     pub(crate) fn move_labels(&self) -> LabelSet
         ensures { (l : ℕ) → l < 64 → member result.0 l ≡ some_below (S.Source.means self.now.machine.now).size (λ t. row_reads self.now.row.now 0 t && initial (S.Source.means self.now.machine.now) t l) }
     {
-        let mut labels = LabelSet::empty();
-        for t in 0..self.row.len() {
-            if self.reaches(t) {
-                labels = labels.union(self.machine.initials(t));
-            }
-        }
-        labels
+        (0..self.row.len())
+            .filter(|t| self.reaches(*t))
+            .map(|t| self.machine.initials(t))
+            .reduce(|a, b| a.union(b))
+            .unwrap_or(LabelSet::empty())
     }
 }

@@ -35,15 +35,11 @@ impl<Q: Source> Place<'_, Q> {
 
     /// All initials of the states where silent moves lead to a rest with no initials but the allowed ones, if there are any.
     fn rests(&self, allowed: LabelSet) -> Option<LabelSet>
-        ensures { MatchOption result (some_below (Q.Source.means self.now.machine.now).size (rests_at (Q.Source.means self.now.machine.now) (row_reads self.now.row.now) 0 (member allowed.0)) ≡ false) (λ labels. AllInitials (Q.Source.means self.now.machine.now) (Q.Source.means self.now.machine.now).size (rests_at (Q.Source.means self.now.machine.now) (row_reads self.now.row.now) 0 (member allowed.0)) labels.0) }
+        ensures { MatchOption result (some_below (Q.Source.means self.now.machine.now).size (rests_at (Q.Source.means self.now.machine.now) (row_reads self.now.row.now) 0 (member allowed.0)) ≡ false) (λ labels. AllInitials (Q.Source.means self.now.machine.now) (rests_at (Q.Source.means self.now.machine.now) (row_reads self.now.row.now) 0 (member allowed.0)) labels.0) }
     {
-        let mut found: Option<LabelSet> = None;
-        for v in 0..self.row.len() {
-            if let Some(initials) = self.rest_initials(allowed, v) {
-                found = Some(found.unwrap_or(initials).union(initials));
-            }
-        }
-        found
+        (0..self.row.len())
+            .filter_map(|v| self.rest_initials(allowed, v))
+            .reduce(|a, b| a.union(b))
     }
 
     /// The first label, none before all, with which a rest of the module at the state is not covered.
