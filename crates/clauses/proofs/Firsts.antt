@@ -10,7 +10,7 @@ cases_option (Some x) = inr (x, refl)
 
 -- and not both
 pub not_both : {A : Type 0} (o : Option A) (x : A) → o ≡ Some x → o ≡ None → ⊥
-not_both o x e z = let y : ◌≡◌ {A = ℕ} 0 1 = cc in omega arith
+not_both o x e z = cc
 
 -- from what the code tests
 pub is_none : {A : Type 0} (o : Option A) → is_some o ≡ false → o ≡ None
@@ -49,7 +49,7 @@ module _ {A : Type 0} (f : ℕ → Option A) where
   -- what is found, is found somewhere
   found_from : (n j : ℕ) (v : A) → first_some f n j ≡ Some v → (k : ℕ) × (k < n + j) × (f k ≡ Some v)
   unfolding first_some
-  found_from zero j v e = absurd (let z : ◌≡◌ {A = ℕ} 0 1 = cc in omega arith)
+  found_from zero j v e = cc
   found_from (suc n) j v e = ⊎_elim
       (λ (z : f j ≡ None). let r = found_from n (suc j) v (ap (λ o. or_else o (first_some f n (suc j))) (sym z) ∙ e) in (r.0, (let l = r.1 in omega arith), r.2))
       (λ (z : (x : A) × (f j ≡ Some x)). (j, omega arith, z.1 ∙ ap (λ o. or_else o (first_some f n (suc j))) (sym z.1) ∙ e))

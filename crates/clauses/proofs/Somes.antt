@@ -1,4 +1,4 @@
--- Tests of the numbers below a bound that a loop raises.
+-- Tests of the numbers below a bound.
 use Rattle.std.proofs.Common.{◌≡◌, ℕ, zero, suc, ◌+◌, ◌<◌, Bool, true, false, ◌||◌, List, Option, MatchOption, sym, refl, ap, ◌∙◌, subst, ⊎_elim, arith}
 use Rattle.std.proofs.lemmas.Bool.{both_ways, cases_Bool, and_parts, and_from, cases_eq}
 use Rattle.std.specs.Fn.{Called}

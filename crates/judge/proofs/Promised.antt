@@ -1,5 +1,5 @@
 -- The promises, from what stands.
-use Rattle.std.proofs.Common.{◌≡◌, ℕ, zero, suc, ◌&&◌, T, eqb, ltb, Some, None, sym, refl, ap, ◌∙◌, subst, subst₂, ⊎_elim, arith}
+use Rattle.std.proofs.Common.{◌≡◌, ℕ, zero, suc, ◌&&◌, T, eqb, ltb, Some, None, sym, refl, ap, ◌∙◌, subst, subst₂, ⊎_elim}
 use Rattle.std.proofs.lemmas.Bool.{eq-eqb, eqb-true, lt-ltb, and_from, and_parts}
 use Rattle.lts.specs.Machines.{Machine, Sound, Fits}
 use Rattle.lts.specs.Conformance.{MachineConforms}
@@ -20,7 +20,7 @@ use Rattle.judge.proofs.AnyRelation.{any_holds}
 
 -- no is not yes
 pub no_yes : (k : ℕ) (c : Counterexample) → No k c ≡ Yes → ⊥
-no_yes k c e = let z : ◌≡◌ {A = ℕ} 0 1 = cc in omega arith
+no_yes k c e = cc
 
 module _ (M N : Machine) (s : Sound M) (u : Sound N) (f : Fits M) (g : Fits N) where
   yes_rank : (r : ℕ) → start_rank M N ≡ r → answer_by M N r ≡ Yes → r ≡ 0

@@ -8,7 +8,7 @@ use Rattle.ranks.specs.Filled.{total, whole, unless_refused, workspace_after}
 
 -- what is refused is not answered
 ok_err : {A E : Type 0} (x : A) (e : E) → Ok x ≡ Err e → ⊥
-ok_err x e z = let y : ◌≡◌ {A = ℕ} 0 1 = cc in omega arith
+ok_err x e z = cc
 
 -- one answer
 ok_same : {A E : Type 0} (x y : A) → ◌≡◌ {A = Result A E} (Ok x) (Ok y) → x ≡ y
