@@ -1,9 +1,10 @@
 -- The candidates of a pair (p, q) of states, in order, and the first that fails against the pairs S. R and U tell where
 -- silent moves lead in the two machines: what a closure holds, or `tau_reaches` itself.
-use Rattle.std.specs.Prelude.{◌≡◌, ℕ, zero, suc, ◌<◌, Bool, true, cond, not, ◌&&◌, Some, None, Option, nat_lt}
+use Rattle.std.specs.Prelude.{◌≡◌, ℕ, zero, suc, ◌<◌, Bool, true, cond, not, ◌&&◌, List, length, Some, None, Option, nat_lt}
 use Rattle.lts.specs.Labels.{member}
 use Rattle.lts.specs.Machines.{Machine, some_below, each_below, implies, tau_reaches, stable, initial}
 use Rattle.lts.specs.Conformance.{covers}
+use Rattle.clauses.specs.Ranks.{row_reads, stood_at}
 use Rattle.clauses.specs.declared.counterexample.Counterexample.{Counterexample}
 use Rattle.clauses.specs.declared.counterexample.Counterexample.TheVariants.{Move, Rest}
 
@@ -75,3 +76,7 @@ first_by M N R U S p q = or_else (as_move (first_move M N R U S p q)) (as_rest (
 
 unfoldable pub first_failing : Machine → Machine → (ℕ → ℕ → Bool) → ℕ → ℕ → Option Counterexample
 first_failing M N S p q = first_by M N (tau_reaches M) (tau_reaches N) S p q
+
+-- what is found of two states by their rows alone, against the pairs that stood before round k; 0 stands for their numbers, which nothing depends on
+abbrev pub by_rows : {A : Type 0} → (Machine → Machine → (ℕ → ℕ → Bool) → (ℕ → ℕ → Bool) → (ℕ → ℕ → Bool) → ℕ → ℕ → A) → Machine → Machine → List ℕ → List ℕ → ℕ → List ℕ → A
+by_rows found M N own other k ranks = found M N (row_reads own) (row_reads other) (stood_at k ranks (length other)) 0 0

@@ -4,7 +4,7 @@ ghost use Rattle.std.specs.Prelude.{◌≡◌, ◌<◌, ◌&&◌, length};
 ghost use Rattle.lts.specs.Machines.{Machine, some_below};
 ghost use Rattle.dense.specs.Copies.{meaning};
 ghost use Rattle.clauses.specs.Ranks.{row_reads, stood_at};
-ghost use Rattle.clauses.specs.Candidates.{weak_by, first_move_on, first_move};
+ghost use Rattle.clauses.specs.Candidates.{weak_by, first_move_on, first_move, by_rows};
 
 use crate::pair::Pair;
 use source::source::Source;
@@ -21,7 +21,7 @@ impl<P: Source> Pair<'_, P> {
 
     /// The lowest state that the module comes to on the label and the contract does not match.
     fn failing_on(&self, label: u8) -> Option<(u8, usize)>
-        ensures { result ≡ first_move_on (P.Source.means self.now.«module».machine.now) (meaning self.now.contract.machine.now) (row_reads self.now.«module».row.now) (row_reads self.now.contract.row.now) (stood_at self.now.round self.now.ranks.now (length self.now.contract.row.now)) 0 0 label }
+        ensures { result ≡ by_rows first_move_on (P.Source.means self.now.«module».machine.now) (meaning self.now.contract.machine.now) self.now.«module».row.now self.now.contract.row.now self.now.round self.now.ranks.now label }
     {
         (0..self.module.row.len()).find_map(
             |state|
@@ -35,7 +35,7 @@ impl<P: Source> Pair<'_, P> {
 
     /// The first move of the module, by label and then by state, that the contract does not match.
     pub(crate) fn failing_move(&self) -> Option<(u8, usize)>
-        ensures { result ≡ first_move (P.Source.means self.now.«module».machine.now) (meaning self.now.contract.machine.now) (row_reads self.now.«module».row.now) (row_reads self.now.contract.row.now) (stood_at self.now.round self.now.ranks.now (length self.now.contract.row.now)) 0 0 }
+        ensures { result ≡ by_rows first_move (P.Source.means self.now.«module».machine.now) (meaning self.now.contract.machine.now) self.now.«module».row.now self.now.contract.row.now self.now.round self.now.ranks.now }
     {
         self.module
             .move_labels()

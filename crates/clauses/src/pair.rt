@@ -4,8 +4,8 @@ ghost use Rattle.std.specs.Prelude.{◌≡◌, ℕ, ◌*◌, ◌<◌, ◌≤◌,
 ghost use Rattle.lts.specs.Machines.{Machine};
 ghost use Rattle.dense.specs.Copies.{meaning};
 ghost use Rattle.dense.specs.Rows.{in_row};
-ghost use Rattle.clauses.specs.Ranks.{row_reads, stood_at};
-ghost use Rattle.clauses.specs.Candidates.{first_by};
+ghost use Rattle.clauses.specs.Ranks.{stood_at};
+ghost use Rattle.clauses.specs.Candidates.{first_by, by_rows};
 ghost use Rattle.clauses.specs.Workspaces.{first_in};
 
 use crate::place::Place;
@@ -34,7 +34,7 @@ impl<'a, P: Source> Pair<'a, P> {
         p: usize,
         q: usize,
     ) -> Option<Pair<'a, P>>
-        ensures { MatchOption result (None ≡ first_in (P.Source.means «module».now) (meaning contract.now) workspace.now round p q) (λ pair. first_by (P.Source.means pair.«module».machine.now) (meaning pair.contract.machine.now) (row_reads pair.«module».row.now) (row_reads pair.contract.row.now) (stood_at pair.round pair.ranks.now (length pair.contract.row.now)) 0 0 ≡ first_in (P.Source.means «module».now) (meaning contract.now) workspace.now round p q) }
+        ensures { MatchOption result (None ≡ first_in (P.Source.means «module».now) (meaning contract.now) workspace.now round p q) (λ pair. by_rows first_by (P.Source.means pair.«module».machine.now) (meaning pair.contract.machine.now) pair.«module».row.now pair.contract.row.now pair.round pair.ranks.now ≡ first_in (P.Source.means «module».now) (meaning contract.now) workspace.now round p q) }
     {
         let module = Place::find(module, workspace, p)?;
         let n = module.row.len();

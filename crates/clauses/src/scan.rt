@@ -1,10 +1,9 @@
 //! The first candidate of a pair that fails.
 
-ghost use Rattle.std.specs.Prelude.{◌≡◌, ◌<◌, length};
+ghost use Rattle.std.specs.Prelude.{◌≡◌, ◌<◌};
 ghost use Rattle.lts.specs.Machines.{Machine};
 ghost use Rattle.dense.specs.Copies.{meaning};
-ghost use Rattle.clauses.specs.Ranks.{row_reads, stood_at};
-ghost use Rattle.clauses.specs.Candidates.{first_by, first_failing};
+ghost use Rattle.clauses.specs.Candidates.{first_by, first_failing, by_rows};
 ghost use Rattle.clauses.specs.Workspaces.{Prepared, stood_in, first_in};
 
 use crate::counterexample::Counterexample;
@@ -15,7 +14,7 @@ use source::source::Source;
 impl<P: Source> Pair<'_, P> {
     /// The first candidate that fails, of the first clause before the second.
     fn first_failing(&self) -> Option<Counterexample>
-        ensures { result ≡ first_by (P.Source.means self.now.«module».machine.now) (meaning self.now.contract.machine.now) (row_reads self.now.«module».row.now) (row_reads self.now.contract.row.now) (stood_at self.now.round self.now.ranks.now (length self.now.contract.row.now)) 0 0 }
+        ensures { result ≡ by_rows first_by (P.Source.means self.now.«module».machine.now) (meaning self.now.contract.machine.now) self.now.«module».row.now self.now.contract.row.now self.now.round self.now.ranks.now }
     {
         if let Some((label, state)) = self.failing_move() {
             return Some(Counterexample::Move { label, state });
