@@ -1,6 +1,8 @@
 -- The union of the initials of the states that pass a test.
 use Rattle.std.proofs.Common.{◌≡◌, ℕ, zero, suc, ◌+◌, Bool, true, false, cond, ◌&&◌, ◌||◌, List, [], ◌∷◌, map, Some, None, Option, MatchOption, sym, refl, ap, ◌∙◌, subst, arith}
+use Rattle.std.proofs.Math.Bool.{or_assoc}
 use Rattle.std.proofs.lemmas.Bool.{cond-true, cond-false}
+use Rattle.std.proofs.lemmas.List.{map-id}
 use Rattle.std.proofs.lemmas.Iterator.{YieldsList, items_from_drains}
 use Rattle.std.specs.Fn.{Called}
 use Rattle.std.specs.Iterator.{ReducesItems, FoldTurn}
@@ -10,7 +12,7 @@ use Rattle.lts.specs.Labels.{member}
 use Rattle.lts.specs.Machines.{Machine, some_below, initial}
 use Rattle.source.specs.Masks.{initials_mask}
 use Rattle.source.proofs.Masks.{initials_member}
-use Rattle.labels.proofs.Bits.{and_true}
+use Rattle.labels.proofs.Bits.{and_true, or_false}
 use Rattle.labels.specs.declared.LabelSet.{LabelSet}
 use Rattle.clauses.specs.Candidates.{AllInitials}
 use Rattle.clauses.proofs.Somes.{some_alike, range_any}
@@ -47,10 +49,6 @@ given_some p test sets n all e =
 given_more : (test : ℕ → Bool) (sets : ℕ → ℕ) (n : ℕ) (all : List LabelSet) → all ≡ filter_map (given test sets) (range_with_len 0 n) → list_any (λ _. true) all ≡ some_below n test
 given_more test sets n all e = given_some (λ _. true) test sets n all e ∙ some_alike n (λ v. test v && true) test (λ k _. and_true (test k))
 
-same_items : (xs : List LabelSet) → xs ≡ map (λ x. x) xs
-same_items [] = refl
-same_items (x ∷ xs) = ap (λ (ys : List LabelSet). x ∷ ys) (same_items xs)
-
 module _ {F : Type 0} (g : Mut F (LabelSet × (LabelSet × Unit {0})) LabelSet) where
   -- each call unites two sets
   abbrev pub Unites : F → Type 0
@@ -58,27 +56,19 @@ module _ {F : Type 0} (g : Mut F (LabelSet × (LabelSet × Unit {0})) LabelSet) 
 
   -- a set and those behind it
   folded : (f : F) → Unites f → (xs : List LabelSet) (p : F) (x : LabelSet) (q : F) (y : LabelSet) → p ≡ f → FoldsTo {P = F × LabelSet} (FoldTurn g) (p, x) xs (q, y) → (l : ℕ) → member y.0 l ≡ (member x.0 l || list_any (has l) xs)
-  folded f u [] p x q y e t l = ap (λ (w : F × LabelSet). member w.1.0 l) (sym t) ∙ or_none (member x.0 l)
-    where
-      or_none : (b : Bool) → b ≡ (b || false)
-      or_none true = refl
-      or_none false = refl
+  folded f u [] p x q y e t l = ap (λ (w : F × LabelSet). member w.1.0 l) (sym t) ∙ sym (or_false (member x.0 l))
   folded f u (z ∷ zs) p x q y e (j, c, t) l =
       let w = u x z j.1 j.0 (subst (λ (k : F). Called g k (x, (z, tt)) j.1 j.0) e c) in
       folded f u zs j.0 j.1 q y w.0 t l ∙ ap (λ (b : Bool). b || list_any (has l) zs) (w.1 l) ∙ or_assoc (member x.0 l) (member z.0 l) (list_any (has l) zs)
-    where
-      or_assoc : (a b c : Bool) → ((a || b) || c) ≡ (a || (b || c))
-      or_assoc true b c = refl
-      or_assoc false b c = refl
 
   -- what `reduce` gathers of the initials of the states that pass a test
   pub gathered : {S : Type 0} {steps : S → Option LabelSet → S → Type 0} {s : S} {f : F} {all : List LabelSet} (N : Machine) (test : ℕ → Bool) (r : Option LabelSet) →
       ReducesItems steps g s f r → YieldsList steps (λ x. x) s all → all ≡ filter_map (given test (initials_mask N)) (range_with_len 0 N.size) → Unites f →
       MatchOption r (some_below N.size test ≡ false) (λ y. AllInitials N test y.0)
-  gathered N test None (v, d) yields e u = sym (given_more test (initials_mask N) N.size [] (same_items [] ∙ items_from_drains [] (d.0, d.1, λ _. (v, d.2)) yields ∙ e))
+  gathered N test None (v, d) yields e u = sym (given_more test (initials_mask N) N.size [] (sym (map-id []) ∙ items_from_drains [] (d.0, d.1, λ _. (v, d.2)) yields ∙ e))
   gathered N test (Some y) (x, xs, q, (v, d), turns) yields e u =
       let sets = initials_mask N in
-      let found : x ∷ xs ≡ filter_map (given test sets) (range_with_len 0 N.size) = same_items (x ∷ xs) ∙ items_from_drains (x ∷ xs) (d.0, d.1, λ _. (v, d.2)) yields ∙ e in
+      let found : x ∷ xs ≡ filter_map (given test sets) (range_with_len 0 N.size) = sym (map-id (x ∷ xs)) ∙ items_from_drains (x ∷ xs) (d.0, d.1, λ _. (v, d.2)) yields ∙ e in
       record {
         some = sym (given_more test sets N.size (x ∷ xs) found);
         labels = λ l h. folded _ u xs _ x q y refl turns l ∙ given_some (has l) test sets N.size (x ∷ xs) found
