@@ -2,6 +2,7 @@ pub mod Counts
 pub mod After
 pub mod Surveying
 pub mod Stepping
+pub mod Narrowing
 pub mod Marking
 pub mod Placed
 pub mod Boards

@@ -1,12 +1,11 @@
 -- Weak steps by rows.
-use Rattle.std.proofs.Common.{◌≡◌, ℕ, ◌+◌, ◌<◌, ◌≤◌, Bool, true, false, ◌&&◌, eqb, ltb, sym, refl, ap, ◌∙◌, subst, ⊎_elim, add-one, arith}
-use Rattle.std.proofs.lemmas.Bool.{and_parts, and_from, and_right, lt-ltb, le-ltb, ltb-true, eq-eqb, eqb-true, cases_Bool, both_ways}
-use Rattle.lts.specs.Machines.{Machine, some_below, each_below, implies, tau_reaches, weak_step}
+use Rattle.std.proofs.Common.{◌≡◌, ℕ, ◌<◌, ◌≤◌, Bool, true, false, ◌&&◌, eqb, ltb, sym, refl, ◌∙◌, subst, ⊎_elim, arith}
+use Rattle.std.proofs.lemmas.Bool.{and_parts, and_from, lt-ltb, ltb-true, eq-eqb, eqb-true, cases_Bool, both_ways}
+use Rattle.lts.specs.Machines.{Machine, some_below, tau_reaches, weak_step}
 use Rattle.lts.specs.Some.{same, some_in, some_out}
 use Rattle.dense.specs.declared.row.Row.{Row}
 use Rattle.dense.specs.Rows.{in_row}
 use Rattle.dense.specs.Copies.{moves_into}
-use Rattle.dense.proofs.Tests.{below_next}
 use Rattle.ranks.specs.Steps.{steps_into}
 
 -- a closure that meets the states before a set
@@ -59,55 +58,3 @@ no_step M p l s e = ⊎_elim
     absurd (both_ways (some_below M.size (λ t. M.move t l s)) e (some_in M.size (λ t. M.move t l s) o.0 o.1 (and_parts (tau_reaches M p o.0) (M.move o.0 l s) o.2).1)))
     (λ t. t)
     (cases_Bool (weak_step M p l s))
-
--- a test of each number that a loop narrows down by
-pub each_none : (a : Bool) (f : ℕ → Bool) → a ≡ (a && each_below 0 f)
-unfolding each_below
-each_none true f = refl
-each_none false f = refl
-
-each_here : (k : ℕ) (f : ℕ → Bool) → each_below (k + 1) f ≡ (f k && each_below k f)
-unfolding each_below
-each_here k f = rw add-one refl
-
-regroup : (a b x : Bool) → ((a && b) && x) ≡ (a && (x && b))
-regroup true true x = and_true x
-  where
-    and_true : (x : Bool) → x ≡ (x && true)
-    and_true true = refl
-    and_true false = refl
-regroup true false x = sym (and_right x false refl)
-regroup false b x = refl
-
-pub each_more : (a : Bool) (k : ℕ) (f : ℕ → Bool) → ((a && each_below k f) && f k) ≡ (a && each_below (k + 1) f)
-each_more a k f = regroup a (each_below k f) (f k) ∙ ap (λ (b : Bool). a && b) (sym (each_here k f))
-
-pub each_skip : (a : Bool) (k : ℕ) (f : ℕ → Bool) → f k ≡ true → (a && each_below k f) ≡ (a && each_below (k + 1) f)
-each_skip a k f t = ap (λ (b : Bool). a && b) (sym (each_here k f ∙ ap (λ (b : Bool). b && each_below k f) t))
-
--- rows that a loop narrows where a test holds
-module _ (mover answer : ℕ → Bool) where
-  abbrev pub kept : ℕ → ℕ → ℕ → Bool
-  kept k a q = implies (ltb a k && mover a) (answer q)
-
-  pub kept_none : (a q : ℕ) → kept 0 a q ≡ true
-  kept_none a q = ap (λ (b : Bool). implies (b && mover a) (answer q)) (le-ltb a 0 (omega arith))
-
-  pub kept_here : (i q : ℕ) → kept i i q ≡ true
-  kept_here i q = ap (λ (b : Bool). implies (b && mover i) (answer q)) (le-ltb i i (omega arith))
-
-  pub kept_taken : (i q : ℕ) → mover i ≡ true → kept (i + 1) i q ≡ answer q
-  kept_taken i q t = ap (λ (b : Bool). implies (b && mover i) (answer q)) (lt-ltb i (i + 1) (omega arith)) ∙ ap (λ (b : Bool). implies b (answer q)) t
-
-  pub kept_left : (k i q : ℕ) → mover i ≡ false → kept k i q ≡ true
-  kept_left k i q t = ap (λ (b : Bool). implies b (answer q)) (and_right (ltb i k) (mover i) t)
-
-  pub kept_other : (i a q : ℕ) → (i ≡ a → ⊥) → kept (i + 1) a q ≡ kept i a q
-  kept_other i a q d = ap (λ (b : Bool). implies (b && mover a) (answer q)) (below_next i a d)
-
-  pub kept_all : (k a q : ℕ) → a < k → kept k a q ≡ implies (mover a) (answer q)
-  kept_all k a q h = ap (λ (b : Bool). implies (b && mover a) (answer q)) (lt-ltb a k h)
-
-pub and_one : (a : Bool) → (a && true) ≡ a
-and_one true = refl
-and_one false = refl

@@ -1,6 +1,6 @@
 -- What is known of the two machines before the rounds.
-use Rattle.std.proofs.Common.{◌≡◌, ℕ, ◌+◌, ◌<◌, ◌≤◌, Bool, true, not, ◌&&◌, eqb, ltb, leb, List, length, get_or, set, is_some, sym, refl, ap, ◌∙◌, subst, ⊎_elim, arith, get_or-set_other, get_or-set_same}
-use Rattle.std.proofs.lemmas.Bool.{and_parts, and_from, and_left, lt-ltb, le-ltb, le-leb, ltb-true, eqb-true, eq-eqb, cases_eq, cases_lt}
+use Rattle.std.proofs.Common.{◌≡◌, ℕ, ◌<◌, ◌≤◌, Bool, true, not, ◌&&◌, eqb, ltb, leb, List, length, is_some, sym, refl, ap, ◌∙◌, subst, ⊎_elim, arith}
+use Rattle.std.proofs.lemmas.Bool.{and_parts, and_from, and_left, lt-ltb, le-ltb, le-leb, ltb-true, eqb-true, eq-eqb, cases_lt}
 use Rattle.lts.specs.Machines.{Machine, Sound, some_below, tau_reaches, stable}
 use Rattle.lts.specs.Conformance.{passes_refusals}
 use Rattle.lts.specs.Some.{same, some_in, some_out}
@@ -13,13 +13,6 @@ use Rattle.clauses.specs.Uncovered.{uncovered_by, uncovered_in}
 use Rattle.clauses.proofs.Agreeing.{at_same}
 use Rattle.clauses.proofs.Passing.{refusals_are}
 use Rattle.clauses.proofs.Reading.{reads_closed}
-
--- one element more of which something holds
-pub set_more : {X : Type 0} (P : ℕ → X → Type 0) (xs : List X) (i : ℕ) (d x : X) → i < length xs → ((j : ℕ) → j < i → P j (get_or xs j d)) → P i x → (j : ℕ) → j < i + 1 → P j (get_or (set xs i x) j d)
-set_more P xs i d x h f here j l = ⊎_elim
-    (λ (e : j ≡ i). subst (λ (k : ℕ). P k (get_or (set xs i x) k d)) (sym e) (subst (P i) (sym (get_or-set_same xs i x d h)) here))
-    (λ (e : j ≡ i → ⊥). subst (P j) (sym (get_or-set_other xs i j x d e)) (f j (omega arith)))
-    (cases_eq j i)
 
 -- a row that is read from a closure
 pub closure_read : (M : Machine) (w : List ℕ) (n p t : ℕ) → n ≡ M.size → Closed M w → p < M.size → (ltb t n && reads w n p t) ≡ (ltb t M.size && tau_reaches M p t)

@@ -1,4 +1,5 @@
 pub mod Rounds
 pub mod Filled
 pub mod Steps
+pub mod Boards
 pub mod Marks

@@ -1,5 +1,5 @@
 -- Rounds, as lists of ranks: rank p * m + q is 0 while the pair (p, q) stands, and else the round that struck it.
-use Rattle.std.specs.Prelude.{◌≡◌, ℕ, zero, suc, ◌+◌, ◌*◌, ◌/◌, ◌%◌, Bool, cond, not, ◌&&◌, List, map, take, drop, replicate, ◌==◌, slice_index}
+use Rattle.std.specs.Prelude.{ℕ, zero, suc, ◌+◌, ◌*◌, ◌/◌, ◌%◌, Bool, cond, not, ◌&&◌, List, map, drop, replicate, ◌==◌, slice_index}
 use Rattle.std.specs.List.{range_with_len}
 use Rattle.lts.specs.Machines.{Machine, some_below}
 use Rattle.lts.specs.Conformance.{passes}
@@ -38,11 +38,10 @@ last_round M N = last_from M N (pairs M N) 0
 unfoldable pub final_ranks : Machine → Machine → List ℕ
 final_ranks M N = ranks_after M N (last_round M N)
 
--- the ranks that a workspace holds
-unfoldable pub ranks_in : Machine → Machine → List ℕ → List ℕ
-ranks_in M N w = map (λ i. rank_at (drop (base M N) w) i) (range_with_len 0 (pairs M N))
+-- the ranks that bytes hold
+unfoldable pub ranks_of : Machine → Machine → List ℕ → List ℕ
+ranks_of M N bytes = map (rank_at bytes) (range_with_len 0 (pairs M N))
 
--- all but the ranks is as it was
-pub record BesideRanks (M N : Machine) (was w : List ℕ) : Type 0 where
-  pub closures : take (base M N) w ≡ take (base M N) was
-  pub behind : drop (base M N + 2 * pairs M N) w ≡ drop (base M N + 2 * pairs M N) was
+-- those of a workspace
+unfoldable pub ranks_in : Machine → Machine → List ℕ → List ℕ
+ranks_in M N w = ranks_of M N (drop (base M N) w)

@@ -1,13 +1,11 @@
 -- A round by rows of bits: the pairs that stand, as a row of the contract's states for each state of the module.
-use Rattle.std.specs.Prelude.{◌≡◌, ℕ, ◌<◌, ◌≤◌, Bool, true, false, not, ◌&&◌, List, get_or, nat_lt, slice_index_or}
+use Rattle.std.specs.Prelude.{◌≡◌, ℕ, ◌<◌, Bool, not, ◌&&◌, List, get_or, nat_lt, slice_index_or}
 use Rattle.lts.specs.Labels.{member}
 use Rattle.lts.specs.Machines.{Machine, some_below, each_below, implies, tau_reaches, weak_step}
 use Rattle.lts.specs.Conformance.{passes_refusals}
 use Rattle.labels.specs.declared.LabelSet.{LabelSet}
 use Rattle.dense.specs.declared.row.Row.{Row}
 use Rattle.dense.specs.Rows.{in_row, none}
-use Rattle.ranks.specs.Rounds.{stands}
-use Rattle.ranks.specs.declared.sides.Sides.{Sides}
 
 abbrev pub in_rows : List Row → ℕ → ℕ → Bool
 in_rows rows p q = in_row (slice_index_or rows p none) q
@@ -35,22 +33,9 @@ ClosureRows M rows = (p t : ℕ) → p < M.size → t < 256 → in_rows rows p t
 abbrev pub no_labels : LabelSet
 no_labels = record { 0 = 0 }
 
--- what is known of both machines: their sizes, their closures, and the labels on the moves into each state of the module
-pub record Surveyed (M N : Machine) (s : Sides) : Type 0 where
-  pub states : s.n ≡ M.size
-  pub others : s.m ≡ N.size
-  pub few : (M.size ≤ 255) × (N.size ≤ 255)
-  pub own : ClosureRows M s.own
-  pub other : ClosureRows N s.other
-  pub arriving : (p l : ℕ) → p < M.size → l < 64 → member (get_or s.arriving p no_labels).0 l ≡ some_below M.size (λ t. M.move t l p)
-
--- before a round: the pairs that stand, those of them that pass the second clause, and the states that lost pairs in the round before.
--- Only on moves to those can a standing pair fail now
-pub record Board (M N : Machine) (ranks : List ℕ) (rows next : List Row) (changed : Row) : Type 0 where
-  pub stand : (p q : ℕ) → p < M.size → q < N.size → in_rows rows p q ≡ stands N ranks p q
-  pub cover : (p q : ℕ) → p < M.size → q < N.size → in_rows next p q ≡ (in_rows rows p q && passes_refusals M N p q)
-  pub settled : (p q p' : ℕ) → p < M.size → q < N.size → p' < M.size → in_rows rows p q ≡ true → in_row changed p' ≡ false →
-      all_answered M N (in_rows rows) p q p' ≡ true
+-- the labels on the moves into each state
+abbrev pub Arriving : Machine → List LabelSet → Type 0
+Arriving M labels = (p l : ℕ) → p < M.size → l < 64 → member (get_or labels p no_labels).0 l ≡ some_below M.size (λ t. M.move t l p)
 
 -- the pairs that pass the second clause
 abbrev pub Covers : Machine → Machine → List Row → Type 0

@@ -1,29 +1,14 @@
 //! The pairs that pass the second clause, which does not depend on the pairs that stand.
 
 ghost use Rattle.std.specs.Prelude.{◌≡◌, ℕ, ◌<◌, ◌≤◌, not, ◌&&◌, nat_lt};
-ghost use Rattle.lts.specs.Machines.{Machine, some_below};
-ghost use Rattle.clauses.specs.Uncovered.{uncovered_in};
-ghost use Rattle.clauses.specs.Workspaces.{Prepared};
-ghost use Rattle.dense.specs.Copies.{meaning};
+ghost use Rattle.lts.specs.Machines.{some_below};
 ghost use Rattle.dense.specs.Rows.{in_row};
-ghost use Rattle.ranks.specs.Steps.{in_rows, Surveyed, Covers};
+ghost use Rattle.ranks.specs.Steps.{in_rows};
 
 use crate::sides::Sides;
+use crate::states::by_state;
 use clauses::rests::uncovered;
-use dense::machine::Dense;
 use dense::row::Row;
-
-/// With each state of the contract, those of the module at which a rest is not covered.
-fn uncovered_rows(module: &Dense, contract: &Dense, sheet: &[u8], m: usize) -> [Row; 255]
-    requires { m ≤ 255 }
-    ensures { (q p : ℕ) → q < m → p < 256 → in_rows result q p ≡ uncovered_in (meaning «module».now) (meaning contract.now) sheet.now q p }
-{
-    let mut rows = [Row::empty(); 255];
-    for q in 0..m {
-        rows[q] = uncovered(module, contract, sheet, q);
-    }
-    rows
-}
 
 /// The states of the contract from which all rests of a closure are covered.
 fn cover_row(closure: Row, bare: &[Row; 255], m: usize) -> Row
@@ -39,16 +24,40 @@ fn cover_row(closure: Row, bare: &[Row; 255], m: usize) -> Row
     found
 }
 
-/// The pairs that pass the second clause.
-pub(crate) fn cover(module: &Dense, contract: &Dense, sides: &Sides, workspace: &[u8]) -> [Row; 255]
-    requires surveyed { Surveyed (meaning «module».now) (meaning contract.now) sides.now }
-    requires ready { Prepared (meaning «module».now) (meaning contract.now) workspace.now }
-    ensures { Covers (meaning «module».now) (meaning contract.now) result }
-{
-    let bare = uncovered_rows(module, contract, &workspace[sides.n * sides.n..], sides.m);
-    let mut rows = [Row::empty(); 255];
-    for p in 0..sides.n {
-        rows[p] = cover_row(sides.own[p], &bare, sides.m);
+impl Sides<'_> {
+    ghost use Rattle.closure.specs.Sheets.{Closed};
+    ghost use Rattle.ranks.specs.Boards.{module_of, contract_of};
+    ghost use Rattle.clauses.specs.Uncovered.{uncovered_in};
+    ghost use Rattle.dense.specs.Copies.{meaning};
+    ghost use Rattle.ranks.specs.Steps.{Covers};
+
+    /// With each state of the contract, those of the module at which a rest is not covered.
+    fn uncovered_rows(&self, sheet: &[u8]) -> [Row; 255]
+        ensures { (q p : ℕ) → q < (contract_of self.now).size → p < 256 → in_rows result q p ≡ uncovered_in (module_of self.now) (contract_of self.now) sheet.now q p }
+    {
+        let module = self.module.machine;
+        let contract = self.contract.machine;
+        by_state(
+            self.contract.size,
+            Row::empty(),
+            |q| -> Row
+                ensures { (p : ℕ) → p < 256 → in_row result p ≡ uncovered_in (meaning «module».entry.now) (meaning contract.entry.now) sheet.entry.now q p }
+            { uncovered(module, contract, sheet, q) },
+        )
     }
-    rows
+
+    /// The pairs that pass the second clause, by the closure of the contract.
+    pub(crate) fn cover(&self, sheet: &[u8]) -> [Row; 255]
+        requires { Closed (contract_of self.now) sheet.now }
+        ensures { Covers (module_of self.now) (contract_of self.now) result }
+    {
+        let bare = self.uncovered_rows(sheet);
+        let m = self.contract.size;
+        let closure = &self.module.closure;
+        by_state(
+            self.module.size,
+            Row::empty(),
+            |p| cover_row(closure[p], &bare, m),
+        )
+    }
 }

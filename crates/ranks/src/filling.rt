@@ -1,46 +1,30 @@
-ghost use Rattle.std.specs.Prelude.{◌≡◌, ℕ, ◌+◌, ◌*◌, ◌<◌, ◌≤◌, length, take, drop, slice_index};
-ghost use Rattle.lts.specs.Machines.{Machine};
+ghost use Rattle.std.specs.Prelude.{◌≡◌, ◌+◌, ◌*◌, ◌≤◌, length};
 ghost use Rattle.dense.specs.Copies.{meaning};
 ghost use Rattle.ranks.specs.Rounds.{last_round};
-ghost use Rattle.ranks.specs.Filled.{total, filled, whole, workspace_after};
+ghost use Rattle.ranks.specs.Filled.{filled, whole, workspace_after};
 
-use crate::covers::cover;
-use crate::rounds::strike_all;
-use crate::sides::survey;
+use crate::sides::{Side, Sides};
 use closure::fill_closure;
 use dense::machine::Dense;
 use source::refusal::Refusal;
 use source::source::Source;
 
-/// Sets the bytes from `from` up to `to` to 0.
-fn clear(workspace: &mut [u8], from: usize, to: usize)
-    requires { (from ≤ to) × (to ≤ length workspace.old) }
-    ensures before { take from workspace.new ≡ take from workspace.old }
-    ensures behind { drop to workspace.new ≡ drop to workspace.old }
-    ensures zeros { (i : ℕ) → from ≤ i → i < to → slice_index workspace.new i ≡ 0 }
-{
-    for i in from..to {
-        workspace[i] = 0;
-    }
-}
-
 /// Fills the closures and the ranks; says which round struck last.
 fn fill(module: &Dense, contract: &Dense, n: usize, m: usize, workspace: &mut [u8]) -> u16
     requires states { n ≡ (meaning «module».now).size }
     requires others { m ≡ (meaning contract.now).size }
-    requires some { 1 ≤ n }
-    requires more { 1 ≤ m }
     requires room { (n + m) * (n + m) ≤ length workspace.old }
     ensures whole { workspace.new ≡ whole (meaning «module».now) (meaning contract.now) workspace.old }
     ensures last { result ≡ last_round (meaning «module».now) (meaning contract.now) }
 {
-    fill_closure(module, workspace);
-    fill_closure(contract, &mut workspace[n * n..]);
-    let at = n * n + m * m;
-    clear(workspace, at, at + 2 * (n * m));
-    let sides = survey(module, contract, n, m, workspace);
-    let covered = cover(module, contract, &sides, workspace);
-    strike_all(module, contract, &sides, covered, workspace)
+    let (own, rest) = workspace.split_at_mut(n * n);
+    let (other, rest) = rest.split_at_mut(m * m);
+    let (ranks, _) = rest.split_at_mut(2 * (n * m));
+    fill_closure(module, own);
+    fill_closure(contract, other);
+    let sides = Sides::of(Side::of(module, n, own), Side::of(contract, m, other));
+    let covered = sides.cover(other);
+    sides.strike_all(covered, ranks)
 }
 
 /// The same as `fill_workspace`, of sources that are copied.

@@ -1,77 +1,54 @@
-ghost use Rattle.std.specs.Prelude.{◌≡◌, ℕ, ◌<◌};
-ghost use Rattle.lts.specs.Machines.{Machine, some_below};
-ghost use Rattle.clauses.specs.Workspaces.{Prepared};
-ghost use Rattle.dense.specs.Copies.{meaning};
-ghost use Rattle.dense.specs.Rows.{in_row};
-ghost use Rattle.ranks.specs.Rounds.{ranks_in, strike, strikes, ranks_after, last_round, final_ranks, BesideRanks};
-ghost use Rattle.ranks.specs.Steps.{Surveyed, Board, Covers};
-
+use crate::board::Board;
 use crate::marks::mark_rows;
 use crate::sides::Sides;
-use crate::steps::strike_changed;
-use dense::machine::Dense;
 use dense::row::Row;
 
-/// Strikes each standing pair that fails against the pairs standing before the round; answers the states that lost a pair.
-fn strike_round(
-    module: &Dense,
-    contract: &Dense,
-    sides: &Sides,
-    stands: &[Row; 255],
-    changed: Row,
-    next: &mut [Row; 255],
-    workspace: &mut [u8],
-    round: u16,
-) -> Row
-    requires surveyed { Surveyed (meaning «module».now) (meaning contract.now) sides.now }
-    requires ready { Prepared (meaning «module».now) (meaning contract.now) workspace.old }
-    requires board { Board (meaning «module».now) (meaning contract.now) (ranks_in (meaning «module».now) (meaning contract.now) workspace.old) stands.now next.old changed }
-    requires counts { 0 < round }
-    ensures ranks { ranks_in (meaning «module».now) (meaning contract.now) workspace.new ≡ strike (meaning «module».now) (meaning contract.now) round (ranks_in (meaning «module».now) (meaning contract.now) workspace.old) }
-    ensures rest { BesideRanks (meaning «module».now) (meaning contract.now) workspace.old workspace.new }
-    ensures more { some_below 256 (in_row result) ≡ strikes (meaning «module».now) (meaning contract.now) (ranks_in (meaning «module».now) (meaning contract.now) workspace.old) }
-    ensures board { Board (meaning «module».now) (meaning contract.now) (ranks_in (meaning «module».now) (meaning contract.now) workspace.new) next.new next.new result }
-{
-    strike_changed(module, contract, sides, stands, changed, next);
-    let at = sides.n * sides.n + sides.m * sides.m;
-    mark_rows(workspace, at, sides.n, sides.m, stands, next, round)
-}
+impl Sides<'_> {
+    ghost use Rattle.std.specs.Prelude.{◌≡◌, ◌*◌, ◌<◌, length};
+    ghost use Rattle.lts.specs.Machines.{some_below};
+    ghost use Rattle.clauses.specs.Workspaces.{pairs};
+    ghost use Rattle.dense.specs.Rows.{in_row};
+    ghost use Rattle.ranks.specs.Boards.{module_of, contract_of, BeforeRound};
+    ghost use Rattle.ranks.specs.Filled.{laid};
+    ghost use Rattle.ranks.specs.Rounds.{ranks_of, strike, strikes, last_round, final_ranks};
+    ghost use Rattle.ranks.specs.Steps.{Covers};
 
-/// Strikes round by round until a round strikes nothing; says how many rounds struck. Before the first round all pairs stand,
-/// and the rows have those that pass the second clause.
-pub(crate) fn strike_all(
-    module: &Dense,
-    contract: &Dense,
-    sides: &Sides,
-    mut next: [Row; 255],
-    workspace: &mut [u8],
-) -> u16
-    requires surveyed { Surveyed (meaning «module».now) (meaning contract.now) sides.now }
-    requires covers { Covers (meaning «module».now) (meaning contract.now) next }
-    requires ready { Prepared (meaning «module».now) (meaning contract.now) workspace.old }
-    requires clear { ranks_in (meaning «module».now) (meaning contract.now) workspace.old ≡ ranks_after (meaning «module».now) (meaning contract.now) 0 }
-    ensures full { ranks_in (meaning «module».now) (meaning contract.now) workspace.new ≡ final_ranks (meaning «module».now) (meaning contract.now) }
-    ensures rest { BesideRanks (meaning «module».now) (meaning contract.now) workspace.old workspace.new }
-    ensures last { result ≡ last_round (meaning «module».now) (meaning contract.now) }
-{
-    let mut stands = [Row::below(sides.m); 255];
-    let mut changed = Row::below(sides.n);
-    let mut done = 0;
-    loop {
-        changed = strike_round(
-            module,
-            contract,
-            sides,
-            &stands,
-            changed,
-            &mut next,
-            workspace,
-            done + 1,
-        );
-        if changed.is_empty() {
-            return done;
+    /// Strikes each standing pair that fails against the pairs standing before the round, and sets the board up for the next one.
+    fn strike_round(&self, board: &mut Board, ranks: &mut [u8], round: u16)
+        requires room { length ranks.old ≡ 2 * pairs (module_of self.now) (contract_of self.now) }
+        requires board { BeforeRound (module_of self.now) (contract_of self.now) (ranks_of (module_of self.now) (contract_of self.now) ranks.old) board.old }
+        requires counts { 0 < round }
+        ensures ranks { ranks_of (module_of self.now) (contract_of self.now) ranks.new ≡ strike (module_of self.now) (contract_of self.now) round (ranks_of (module_of self.now) (contract_of self.now) ranks.old) }
+        ensures more { some_below 256 (in_row board.new.changed) ≡ strikes (module_of self.now) (contract_of self.now) (ranks_of (module_of self.now) (contract_of self.now) ranks.old) }
+        ensures board { BeforeRound (module_of self.now) (contract_of self.now) (ranks_of (module_of self.now) (contract_of self.now) ranks.new) board.new }
+    {
+        self.strike_changed(board);
+        let next = board.next;
+        board.changed = mark_rows(ranks, self.module.size, self.contract.size, board, round);
+        board.stands = next;
+    }
+
+    /// Strikes round by round until a round strikes nothing; says how many rounds struck. Before the first round all pairs stand,
+    /// and `covered` has those that pass the second clause.
+    pub(crate) fn strike_all(&self, covered: [Row; 255], ranks: &mut [u8]) -> u16
+        requires covers { Covers (module_of self.now) (contract_of self.now) covered }
+        requires room { length ranks.old ≡ 2 * pairs (module_of self.now) (contract_of self.now) }
+        ensures full { ranks.new ≡ laid (final_ranks (module_of self.now) (contract_of self.now)) }
+        ensures last { result ≡ last_round (module_of self.now) (contract_of self.now) }
+    {
+        ranks.fill(0);
+        let mut board = Board {
+            stands: [Row::below(self.contract.size); 255],
+            next: covered,
+            changed: Row::below(self.module.size),
+        };
+        let mut done = 0;
+        loop {
+            self.strike_round(&mut board, ranks, done + 1);
+            if board.changed.is_empty() {
+                return done;
+            }
+            done += 1;
         }
-        stands = next;
-        done += 1;
     }
 }

@@ -1,26 +1,36 @@
 //! What the rounds ask again and again of the two machines, found once.
 
-ghost use Rattle.std.specs.Prelude.{◌≡◌, ℕ, ◌*◌, ◌<◌, ◌≤◌, ◌&&◌, length, nat_lt, slice_index_or};
+ghost use Rattle.std.specs.Prelude.{◌≡◌, ℕ, ◌*◌, ◌<◌, ◌≤◌, ◌&&◌, length, nat_lt};
 ghost use Rattle.lts.specs.Labels.{member};
 ghost use Rattle.lts.specs.Machines.{Machine, some_below};
+ghost use Rattle.closure.specs.Sheets.{Closed};
 ghost use Rattle.clauses.specs.Ranks.{reads};
-ghost use Rattle.clauses.specs.Workspaces.{Prepared};
 ghost use Rattle.dense.specs.Copies.{meaning};
 ghost use Rattle.dense.specs.Rows.{in_row};
-ghost use Rattle.ranks.specs.Steps.{in_rows, no_labels, Surveyed};
+ghost use Rattle.ranks.specs.Steps.{in_rows, ClosureRows, Arriving, steps_into};
 
+use crate::states::by_state;
 use dense::machine::Dense;
 use dense::row::Row;
 use labels::LabelSet;
 
-/// The numbers of states, the tau closures as rows, and the labels on the moves into each state of the module.
+/// A machine with the number of its states and its tau closure as rows.
 #[derive(Drop)]
-pub(crate) struct Sides {
-    pub(crate) n: usize,
-    pub(crate) m: usize,
-    pub(crate) own: [Row; 255],
-    pub(crate) other: [Row; 255],
+pub(crate) struct Side<'a> {
+    pub(crate) machine: &'a Dense,
+    pub(crate) size: usize,
+    pub(crate) closure: [Row; 255],
+    ghost sized: { size ≡ (meaning machine.now).size },
+    ghost closed: { ClosureRows (meaning machine.now) closure },
+}
+
+/// Both machines, and the labels on the moves into each state of the module.
+#[derive(Drop)]
+pub(crate) struct Sides<'a> {
+    pub(crate) module: Side<'a>,
+    pub(crate) contract: Side<'a>,
     pub(crate) arriving: [LabelSet; 255],
+    ghost arrives: { Arriving (meaning «module».machine.now) arriving },
 }
 
 /// Row `p` of a closure.
@@ -39,19 +49,6 @@ fn closure_row(sheet: &[u8], n: usize, p: usize) -> Row
     found
 }
 
-/// All its rows.
-fn closure_rows(sheet: &[u8], n: usize) -> [Row; 255]
-    requires room { n * n ≤ length sheet.now }
-    requires few { n ≤ 255 }
-    ensures { (p t : ℕ) → p < n → t < 256 → in_rows result p t ≡ (nat_lt t n && reads sheet.now n p t) }
-{
-    let mut rows = [Row::empty(); 255];
-    for p in 0..n {
-        rows[p] = closure_row(sheet, n, p);
-    }
-    rows
-}
-
 /// The labels on the moves into the state.
 fn labels_into(module: &Dense, state: usize) -> LabelSet
     requires { state < (meaning «module».now).size }
@@ -67,36 +64,48 @@ fn labels_into(module: &Dense, state: usize) -> LabelSet
     found
 }
 
-/// The same for each state.
-fn arriving_labels(module: &Dense, n: usize) -> [LabelSet; 255]
-    requires { n ≡ (meaning «module».now).size }
-    ensures { (p l : ℕ) → p < n → l < 64 → member (slice_index_or result p no_labels).0 l ≡ some_below (meaning «module».now).size (λ t. (meaning «module».now).move t l p) }
-{
-    let mut labels = [LabelSet::empty(); 255];
-    for p in 0..n {
-        labels[p] = labels_into(module, p);
+impl<'a> Side<'a> {
+    /// Reads the closure from a sheet that begins with it.
+    pub(crate) fn of(machine: &'a Dense, size: usize, sheet: &[u8]) -> Side<'a>
+        requires states { size ≡ (meaning machine.now).size }
+        requires closed { Closed (meaning machine.now) sheet.now }
+        ensures { result.machine.now ≡ machine.now }
+    {
+        Side {
+            machine,
+            size,
+            closure: by_state(size, Row::empty(), |p| closure_row(sheet, size, p)),
+        }
     }
-    labels
+
+    /// The states that weak-step on the label into the set.
+    pub(crate) fn steps_into(&self, label: u8, states: Row) -> Row
+        ensures { (p : ℕ) → p < self.now.size → in_row result p ≡ steps_into (meaning self.now.machine.now) (in_row states) label p }
+    {
+        let before = self.machine.before(label, states);
+        let mut found = Row::empty();
+        for p in 0..self.size {
+            if self.closure[p].meets(before) {
+                found = found.with(p);
+            }
+        }
+        found
+    }
 }
 
-/// Reads the closures from the workspace and asks the module for the labels.
-pub(crate) fn survey(
-    module: &Dense,
-    contract: &Dense,
-    n: usize,
-    m: usize,
-    workspace: &[u8],
-) -> Sides
-    requires states { n ≡ (meaning «module».now).size }
-    requires others { m ≡ (meaning contract.now).size }
-    requires ready { Prepared (meaning «module».now) (meaning contract.now) workspace.now }
-    ensures { Surveyed (meaning «module».now) (meaning contract.now) result }
-{
-    Sides {
-        n,
-        m,
-        own: closure_rows(workspace, n),
-        other: closure_rows(&workspace[n * n..], m),
-        arriving: arriving_labels(module, n),
+impl<'a> Sides<'a> {
+    /// Asks the module for its labels.
+    pub(crate) fn of(module: Side<'a>, contract: Side<'a>) -> Sides<'a>
+        ensures own { result.«module» ≡ «module».entry }
+        ensures other { result.contract ≡ contract.entry }
+    {
+        let arriving = by_state(module.size, LabelSet::empty(), |p| {
+            labels_into(module.machine, p)
+        });
+        Sides {
+            module,
+            contract,
+            arriving,
+        }
     }
 }

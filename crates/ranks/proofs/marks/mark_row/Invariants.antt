@@ -1,7 +1,7 @@
-use Rattle.std.proofs.Common.{◌+◌, ◌*◌, ◌&&◌, eqb, ltb}
+use Rattle.std.proofs.Common.{◌&&◌, eqb, ltb}
 use Rattle.dense.specs.Rows.{in_row}
 use Rattle.ranks.specs.Marks.{Marked}
 use Rattle.ranks.proofs.marks.mark_row.Given as goal
 
 abbrev pub invariant-loop-q : goal.invariant-loop-q
-invariant-loop-q l = Marked l.at l.m (l.at + 2 * (l.p * l.m + l.m)) l.round (λ a b. eqb a l.p && (ltb b l.q && in_row l.struck b)) l.initial.workspace l.workspace
+invariant-loop-q l = Marked l.m l.round (λ a b. eqb a l.p && (ltb b l.q && in_row l.struck b)) l.initial.ranks l.ranks

@@ -1,0 +1,17 @@
+//! An element for each state of a machine.
+
+ghost use Rattle.std.specs.Prelude.{ℕ, ◌<◌, ◌≤◌, slice_index_or};
+
+/// What `f` gives for each state below `n`, with `rest` behind.
+// Fixed memory: nothing may be allocated here, so there is an element for each state that a machine can have.
+pub(crate) fn by_state<T: Copy, F: Fn(usize) -> T>(n: usize, rest: T, f: F) -> [T; 255]
+    requires few { n ≤ 255 }
+    requires can { (p : ℕ) → p < n → F.pre f p }
+    ensures { (p : ℕ) (d : T) → p < n → F.post f p (slice_index_or result p d) }
+{
+    let mut all = [rest; 255];
+    for p in 0..n {
+        all[p] = f(p);
+    }
+    all
+}
