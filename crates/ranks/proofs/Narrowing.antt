@@ -1,5 +1,7 @@
 -- Pairs that a loop narrows down, test by test.
-use Rattle.std.proofs.Common.{◌≡◌, ℕ, ◌+◌, ◌<◌, Bool, true, false, ◌&&◌, eqb, ltb, length, set, sym, refl, ap, ◌∙◌, subst, ⊎_elim, add-one, arith, get_or-set_other, get_or-set_same}
+use Rattle.std.proofs.Common.{◌≡◌, ℕ, ◌+◌, ◌<◌, Bool, true, false, ◌&&◌, eqb, ltb, List, [], ◌∷◌, ◌++◌, length, set, sym, refl, ap, ◌∙◌, subst, ⊎_elim, add-one, arith, get_or-set_other, get_or-set_same}
+use Rattle.std.specs.List.{list_all}
+use Rattle.std.proofs.lemmas.List.Folds.{list_all-append}
 use Rattle.std.proofs.lemmas.Bool.{cases_eq, ne_eqb, eq-eqb}
 use Rattle.std.proofs.lemmas.Bool.Decides.{nat_tests}
 use Rattle.lts.specs.Machines.{Machine, each_below, implies}
@@ -8,6 +10,9 @@ use Rattle.dense.specs.Rows.{in_row, none}
 use Rattle.ranks.specs.Boards.{Narrowed}
 use Rattle.ranks.specs.Steps.{in_rows}
 use Rattle.ranks.specs.declared.board.Board.{Board}
+
+and_one : (a : Bool) → (a && true) ≡ a
+and_one a = grind (arith, nat_tests)
 
 -- by the cases of a test
 taken : (a x e m : Bool) → e ≡ true → m ≡ true → (a && x) ≡ (a && implies (e && m) x)
@@ -51,6 +56,11 @@ module _ (M N : Machine) where
     -- which all pass
     pub narrowed_skip : ((p q : ℕ) → f p q k ≡ true) → Narrowed M N (λ p q. each_below (k + 1) (f p q)) was b
     narrowed_skip t = narrowed_more b (narrowed_none (λ p q. f p q k) b t)
+
+  -- the tests of a list of numbers, of which one is new
+  pub narrowed_push : (f : ℕ → ℕ → ℕ → Bool) (xs : List ℕ) (k : ℕ) (was b c : Board) → Narrowed M N (λ p q. list_all (f p q) xs) was b → Narrowed M N (λ p q. f p q k) b c
+      → Narrowed M N (λ p q. list_all (f p q) (xs ++ k ∷ [])) was c
+  narrowed_push f xs k was b c d e = narrowed_both _ _ _ was b c d e (λ p q. list_all-append (f p q) xs (k ∷ []) ∙ ap (λ (x : Bool). list_all (f p q) xs && x) (and_one (f p q k)))
 
   module _ (mover answer : ℕ → Bool) where
     module _ (k : ℕ) (was b : Board) (done : Narrowed M N (kept mover answer k) was b) where

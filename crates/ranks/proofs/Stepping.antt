@@ -1,8 +1,14 @@
 -- Weak steps by rows.
-use Rattle.std.proofs.Common.{◌≡◌, ℕ, ◌<◌, ◌≤◌, Bool, true, false, ◌&&◌, eqb, ltb, sym, refl, ◌∙◌, subst, ⊎_elim, arith}
+use Rattle.std.proofs.Common.{◌≡◌, ℕ, zero, suc, ◌<◌, ◌≤◌, Bool, true, false, not, ◌&&◌, eqb, ltb, List, [], ◌∷◌, ap, sym, refl, ◌∙◌, subst, ⊎_elim, arith}
 use Rattle.std.proofs.lemmas.Bool.{and_parts, and_from, lt-ltb, ltb-true, eq-eqb, eqb-true, cases_Bool, both_ways}
-use Rattle.lts.specs.Machines.{Machine, some_below, tau_reaches, weak_step}
+use Rattle.std.specs.List.{list_any, list_all}
+use Rattle.std.proofs.lemmas.Bool.Decides.{nat_tests}
+use Rattle.lts.specs.Labels.{member}
+use Rattle.lts.specs.Machines.{Machine, some_below, each_below, tau_reaches, weak_step}
 use Rattle.lts.specs.Some.{same, some_in, some_out}
+use Rattle.labels.specs.Sets.{members}
+use Rattle.labels.proofs.Listed.{any_member}
+use Rattle.dense.proofs.Tests.{some_alike}
 use Rattle.dense.specs.declared.row.Row.{Row}
 use Rattle.dense.specs.Rows.{in_row}
 use Rattle.dense.specs.Copies.{moves_into}
@@ -58,3 +64,19 @@ no_step M p l s e = ⊎_elim
     absurd (both_ways (some_below M.size (λ t. M.move t l s)) e (some_in M.size (λ t. M.move t l s) o.0 o.1 (and_parts (tau_reaches M p o.0) (M.move o.0 l s) o.2).1)))
     (λ t. t)
     (cases_Bool (weak_step M p l s))
+
+-- the tests of the members of a set, outside of which all pass
+all_any : (f : ℕ → Bool) (xs : List ℕ) → list_all f xs ≡ not (list_any (λ k. not (f k)) xs)
+all_any f [] = refl
+all_any f (x ∷ xs) = let e = all_any f xs in grind (arith, nat_tests)
+
+each_some : (n : ℕ) (f : ℕ → Bool) → each_below n f ≡ not (some_below n (λ k. not (f k)))
+unfolding each_below some_below
+each_some zero f = refl
+each_some (suc n) f = let e = each_some n f in grind (arith, nat_tests)
+
+pub each_member : (x : ℕ) (f : ℕ → Bool) → ((k : ℕ) → k < 64 → member x k ≡ false → f k ≡ true) → list_all f (members x) ≡ each_below 64 f
+each_member x f h =
+    all_any f (members x)
+    ∙ ap not (any_member x (λ k. not (f k)) ∙ some_alike 64 (λ k. member x k && not (f k)) (λ k. not (f k)) (λ k l. let e = h k l in grind (arith, nat_tests)))
+    ∙ sym (each_some 64 f)

@@ -15,13 +15,7 @@ fn cover_row(closure: Row, bare: &[Row; 255], m: usize) -> Row
     requires { m ≤ 255 }
     ensures { (q : ℕ) → q < 256 → in_row result q ≡ (nat_lt q m && not (some_below 256 (λ p. in_row closure p && in_rows bare.now q p))) }
 {
-    let mut found = Row::empty();
-    for q in 0..m {
-        if !closure.meets(bare[q]) {
-            found = found.with(q);
-        }
-    }
-    found
+    Row::of(m, |q| !closure.meets(bare[q]))
 }
 
 impl Sides<'_> {

@@ -32,11 +32,8 @@ pub fn fill_copied(module: &Dense, contract: &Dense, workspace: &mut [u8]) -> Re
     ensures value { result ≡ filled (meaning «module».now) (meaning contract.now) (length workspace.old) }
     ensures workspace { workspace.new ≡ workspace_after (meaning «module».now) (meaning contract.now) workspace.old }
 {
-    let n = module.size() as usize;
-    let m = contract.size() as usize;
-    if n == 256 || m == 256 {
-        return Err(Refusal::TooLarge);
-    }
+    let n = module.states().ok_or(Refusal::TooLarge)?;
+    let m = contract.states().ok_or(Refusal::TooLarge)?;
     if workspace.len() < (n + m) * (n + m) {
         return Err(Refusal::TooShort);
     }

@@ -8,19 +8,19 @@ impl Sides<'_> {
     ghost use Rattle.lts.specs.Machines.{some_below};
     ghost use Rattle.clauses.specs.Workspaces.{pairs};
     ghost use Rattle.dense.specs.Rows.{in_row};
-    ghost use Rattle.ranks.specs.Boards.{module_of, contract_of, BeforeRound};
+    ghost use Rattle.ranks.specs.Boards.{module_of, contract_of, ranks_held, ReadyFor};
     ghost use Rattle.ranks.specs.Filled.{laid};
-    ghost use Rattle.ranks.specs.Rounds.{ranks_of, strike, strikes, last_round, final_ranks};
+    ghost use Rattle.ranks.specs.Rounds.{strike, strikes, last_round, final_ranks};
     ghost use Rattle.ranks.specs.Steps.{Covers};
 
     /// Strikes each standing pair that fails against the pairs standing before the round, and sets the board up for the next one.
     fn strike_round(&self, board: &mut Board, ranks: &mut [u8], round: u16)
         requires room { length ranks.old ≡ 2 * pairs (module_of self.now) (contract_of self.now) }
-        requires board { BeforeRound (module_of self.now) (contract_of self.now) (ranks_of (module_of self.now) (contract_of self.now) ranks.old) board.old }
+        requires board { ReadyFor self.now ranks.old board.old }
         requires counts { 0 < round }
-        ensures ranks { ranks_of (module_of self.now) (contract_of self.now) ranks.new ≡ strike (module_of self.now) (contract_of self.now) round (ranks_of (module_of self.now) (contract_of self.now) ranks.old) }
-        ensures more { some_below 256 (in_row board.new.changed) ≡ strikes (module_of self.now) (contract_of self.now) (ranks_of (module_of self.now) (contract_of self.now) ranks.old) }
-        ensures board { BeforeRound (module_of self.now) (contract_of self.now) (ranks_of (module_of self.now) (contract_of self.now) ranks.new) board.new }
+        ensures ranks { ranks_held self.now ranks.new ≡ strike (module_of self.now) (contract_of self.now) round (ranks_held self.now ranks.old) }
+        ensures more { some_below 256 (in_row board.new.changed) ≡ strikes (module_of self.now) (contract_of self.now) (ranks_held self.now ranks.old) }
+        ensures board { ReadyFor self.now ranks.new board.new }
     {
         self.strike_changed(board);
         let next = board.next;

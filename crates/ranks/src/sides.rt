@@ -40,13 +40,15 @@ fn closure_row(sheet: &[u8], n: usize, p: usize) -> Row
     requires inside { p < n }
     ensures { (t : ℕ) → t < 256 → in_row result t ≡ (nat_lt t n && reads sheet.now n p t) }
 {
-    let mut found = Row::empty();
-    for t in 0..n {
-        if sheet[p * n + t] == 1 {
-            found = found.with(t);
-        }
-    }
-    found
+    Row::of(n, |t| sheet[p * n + t] == 1)
+}
+
+/// Whether some state moves on the label to the state.
+fn arrives(module: &Dense, label: u8, state: usize) -> bool
+    requires { state < (meaning «module».now).size }
+    ensures { result ≡ some_below (meaning «module».now).size (λ t. (meaning «module».now).move t label state) }
+{
+    !module.before(label, Row::empty().with(state)).is_empty()
 }
 
 /// The labels on the moves into the state.
@@ -54,14 +56,7 @@ fn labels_into(module: &Dense, state: usize) -> LabelSet
     requires { state < (meaning «module».now).size }
     ensures { (l : ℕ) → l < 64 → member result.0 l ≡ some_below (meaning «module».now).size (λ t. (meaning «module».now).move t l state) }
 {
-    let alone = Row::empty().with(state);
-    let mut found = LabelSet::empty();
-    for label in 0..64u8 {
-        if !module.before(label, alone).is_empty() {
-            found = found.with(label);
-        }
-    }
-    found
+    LabelSet::of(|label| arrives(module, label, state))
 }
 
 impl<'a> Side<'a> {
@@ -83,13 +78,8 @@ impl<'a> Side<'a> {
         ensures { (p : ℕ) → p < self.now.size → in_row result p ≡ steps_into (meaning self.now.machine.now) (in_row states) label p }
     {
         let before = self.machine.before(label, states);
-        let mut found = Row::empty();
-        for p in 0..self.size {
-            if self.closure[p].meets(before) {
-                found = found.with(p);
-            }
-        }
-        found
+        let closure = &self.closure;
+        Row::of(self.size, |p| closure[p].meets(before))
     }
 }
 

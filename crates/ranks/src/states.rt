@@ -10,8 +10,8 @@ pub(crate) fn by_state<T: Copy, F: Fn(usize) -> T>(n: usize, rest: T, f: F) -> [
     ensures { (p : ℕ) (d : T) → p < n → F.post f p (slice_index_or result p d) }
 {
     let mut all = [rest; 255];
-    for p in 0..n {
-        all[p] = f(p);
+    for (p, element) in all[..n].iter_mut().enumerate() {
+        *element = f(p);
     }
     all
 }

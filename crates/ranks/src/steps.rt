@@ -8,13 +8,12 @@ impl Sides<'_> {
     ghost use Rattle.std.specs.Prelude.{◌<◌};
     ghost use Rattle.lts.specs.Machines.{each_below, implies};
     ghost use Rattle.dense.specs.Rows.{in_row};
-    ghost use Rattle.ranks.specs.Steps.{in_rows, answered, all_answered};
-    ghost use Rattle.ranks.specs.Boards.{module_of, contract_of, Narrowed};
+    ghost use Rattle.ranks.specs.Boards.{module_of, answers, answers_all, Leaves};
 
     /// Leaves, with each state that weak-steps on the label to the state, only those that answer with a pair that stands.
     fn strike_label(&self, board: &mut Board, state: usize, label: u8)
         requires { state < (module_of self.now).size }
-        ensures { Narrowed (module_of self.now) (contract_of self.now) (λ p q. answered (module_of self.now) (contract_of self.now) (in_rows board.old.stands) p q state label) board.old board.new }
+        ensures { Leaves self.now (λ p q. answers self.now board.old p q state label) board.old board.new }
     {
         let movers = self.module.steps_into(label, Row::empty().with(state));
         let answers = self.contract.steps_into(label, board.stands[state]);
@@ -28,19 +27,16 @@ impl Sides<'_> {
     /// The same for each label on the moves into the state.
     fn strike_state(&self, board: &mut Board, state: usize)
         requires { state < (module_of self.now).size }
-        ensures { Narrowed (module_of self.now) (contract_of self.now) (λ p q. all_answered (module_of self.now) (contract_of self.now) (in_rows board.old.stands) p q state) board.old board.new }
+        ensures { Leaves self.now (λ p q. answers_all self.now board.old p q state) board.old board.new }
     {
-        let arriving = self.arriving[state];
-        for label in 0..64u8 {
-            if arriving.has(label) {
-                self.strike_label(board, state, label);
-            }
+        for label in self.arriving[state].iter() {
+            self.strike_label(board, state, label);
         }
     }
 
     /// The same for each state whose pairs changed.
     pub(crate) fn strike_changed(&self, board: &mut Board)
-        ensures { Narrowed (module_of self.now) (contract_of self.now) (λ p q. each_below (module_of self.now).size (λ p'. implies (in_row board.old.changed p') (all_answered (module_of self.now) (contract_of self.now) (in_rows board.old.stands) p q p'))) board.old board.new }
+        ensures { Leaves self.now (λ p q. each_below (module_of self.now).size (λ p'. implies (in_row board.old.changed p') (answers_all self.now board.old p q p'))) board.old board.new }
     {
         let changed = board.changed;
         for state in 0..self.module.size {
