@@ -55,6 +55,9 @@ kept_test s x p e f = grind (arith, nat_tests)
 step_test : (s x before moves all rest : Bool) → before ≡ (s && rest) → x ≡ (before && moves) → (s ≡ true → moves ≡ all) → x ≡ (s && (all && rest))
 step_test s x before moves all rest e f g = grind (arith, nat_tests)
 
+covered : (x y s moves rest : Bool) → y ≡ x → x ≡ (s && (moves && rest)) → x ≡ (y && rest)
+covered x y s moves rest e f = grind (arith, nat_tests)
+
 -- a pair that is struck no longer stands
 stands_next : (k r : ℕ) (s x lost : Bool) → 0 < k → s ≡ eqb r 0 → lost ≡ (s && not x) → (lost ≡ false → x ≡ s) → x ≡ eqb (cond lost k r) 0
 stands_next k r s x lost h e f g = grind (arith, nat_tests)
@@ -111,25 +114,33 @@ module _ (M N : Machine) (ranks : List ℕ) (b c : Board) (ready : BeforeRound M
         some_in 256 (in_row r) (i / N.size) (omega arith)
         (told (i / N.size) (omega arith) ∙ and_from _ _ (lt-ltb (i / N.size) M.size h) (some_in N.size (lost b.stands c.next (i / N.size)) (i % N.size) (column_in M N i o.1) (sym (lost_at i o.1) ∙ o.2))))
 
-    -- and the board is ready for the next one
-    pub board_next : (k : ℕ) → 0 < k → BeforeRound M N (strike M N k ranks) (record { stands = c.next; next = c.next; changed = r })
+  -- and the board is ready for the next one
+  module _ (d : Board) (small : M.size ≤ 255) (left : d.next ≡ c.next) (stand : (p q : ℕ) → p < M.size → q < N.size → in_rows d.stands p q ≡ (S p q && in_rows c.next p q))
+      (told : (p : ℕ) → p < 256 → in_row d.changed p ≡ (ltb p M.size && some_below N.size (lost b.stands c.next p))) where
+    -- what stands is what was to stand next
+    next_is : (p q : ℕ) → p < M.size → q < N.size → in_rows d.stands p q ≡ in_rows c.next p q
+    next_is p q h l = let e = step_is p q h l in let f = stand p q h l in grind (arith, nat_tests)
+
+    lost_none : (p : ℕ) → p < M.size → in_row d.changed p ≡ false → some_below N.size (lost b.stands c.next p) ≡ false
+    lost_none p h u = let e = told p (omega arith) in grind (arith, nat_tests)
+
+    pub board_next : (k : ℕ) → 0 < k → BeforeRound M N (strike M N k ranks) d
     unfolding strike passes
     board_next k pos = record {
       stand = λ p q h l.
           let i = p * N.size + q in
           let x = lost b.stands c.next p q in
           let now = get_or-map-range_with_len (λ j. cond (strikes_at M N ranks j) k (get_or ranks j 0)) 0 (pairs M N) i i 0 (pair_in M N p q h l) (omega arith) in
-          stands_next k (get_or ranks i 0) (S p q) (in_rows c.next p q) x pos (ready.stand p q h l) refl (kept_test (S p q) (in_rows c.next p q) (passes M N S p q) (step_is p q h l))
+          next_is p q h l
+          ∙ stands_next k (get_or ranks i 0) (S p q) (in_rows c.next p q) x pos (ready.stand p q h l) refl (kept_test (S p q) (in_rows c.next p q) (passes M N S p q) (step_is p q h l))
           ∙ sym (ap (λ (v : ℕ). eqb v 0) now ∙ ap (λ (y : Bool). eqb (cond y k (get_or ranks i 0)) 0) (lost_is p q h l));
-      cover = λ p q h l. let e = step_is p q h l in grind (arith, nat_tests);
+      cover = λ p q h l. let e = step_is p q h l in let f = next_is p q h l in ap (λ (x : List Row). in_rows x p q) left ∙ covered (in_rows c.next p q) (in_rows d.stands p q) (S p q) (passes_moves M N S p q) (passes_refusals M N p q) f e;
       settled = λ p q p' h l j t u.
-          let none = lost_none p' j u in
-          answers_alike M N (in_rows c.next) S p q p' (λ a v. kept_test (S p' a) (in_rows c.next p' a) (passes M N S p' a) (step_is p' a j v) (none_at N.size (lost b.stands c.next p') none a v))
-          ∙ each_out M.size (all_answered M N S p q) (sym (moves_are M N S p q) ∙ (and_parts (passes_moves M N S p q) (passes_refusals M N p q) (and_parts (S p q) _ (sym (step_is p q h l) ∙ t)).1).0) p' j;
+          answers_alike M N (in_rows d.stands) S p q p'
+          (λ a v. next_is p' a j v ∙ kept_test (S p' a) (in_rows c.next p' a) (passes M N S p' a) (step_is p' a j v) (none_at N.size (lost b.stands c.next p') (lost_none p' j u) a v))
+          ∙ each_out M.size (all_answered M N S p q)
+          (sym (moves_are M N S p q) ∙ (and_parts (passes_moves M N S p q) (passes_refusals M N p q) (and_parts (S p q) _ (sym (next_is p q h l ∙ step_is p q h l) ∙ t)).1).0) p' j;
     }
-      where
-        lost_none : (p' : ℕ) → p' < M.size → in_row r p' ≡ false → some_below N.size (lost b.stands c.next p') ≡ false
-        lost_none p' j u = let e = told p' (omega arith) in grind (arith, nat_tests)
 
   -- the ranks that are written are those of the round
   pub ranks_next : (k : ℕ) (was w : List ℕ) → ranks ≡ ranks_of M N was → Marked N.size k (λ p q. ltb p M.size && lost b.stands c.next p q) was w → ranks_of M N w ≡ strike M N k ranks

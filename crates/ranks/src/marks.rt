@@ -29,21 +29,26 @@ fn mark_row(ranks: &mut [u8], m: usize, p: usize, struck: Row, round: u16)
     }
 }
 
-/// Writes the round at each pair that stood and does not stand next; answers the states that lost a pair.
-pub(crate) fn mark_rows(ranks: &mut [u8], n: usize, m: usize, board: &Board, round: u16) -> Row
-    requires room { 2 * (n * m) ≤ length ranks.old }
-    requires few { (n ≤ 255) × (m ≤ 255) }
-    ensures marked { Marked m round (λ a b. nat_lt a n && lost board.now.stands board.now.next a b) ranks.old ranks.new }
-    ensures changed { (p : ℕ) → p < 256 → in_row result p ≡ (nat_lt p n && some_below m (lost board.now.stands board.now.next p)) }
-{
-    let all = Row::below(m);
-    let mut changed = Row::empty();
-    for p in 0..n {
-        let struck = board.stands[p].without(board.next[p]).both(all);
-        if !struck.is_empty() {
-            mark_row(ranks, m, p, struck, round);
-            changed = changed.with(p);
+impl Board {
+    /// Writes the round at each pair that stands and does not stand next: it stands no longer, and its row has changed.
+    pub(crate) fn mark_rows(&mut self, ranks: &mut [u8], n: usize, m: usize, round: u16)
+        requires room { 2 * (n * m) ≤ length ranks.old }
+        requires few { (n ≤ 255) × (m ≤ 255) }
+        ensures marked { Marked m round (λ a b. nat_lt a n && lost self.old.stands self.old.next a b) ranks.old ranks.new }
+        ensures stands { (p q : ℕ) → p < n → q < m → in_rows self.new.stands p q ≡ (in_rows self.old.stands p q && in_rows self.old.next p q) }
+        ensures next { self.new.next ≡ self.old.next }
+        ensures changed { (p : ℕ) → p < 256 → in_row self.new.changed p ≡ (nat_lt p n && some_below m (lost self.old.stands self.old.next p)) }
+    {
+        let all = Row::below(m);
+        let mut changed = Row::empty();
+        for p in 0..n {
+            let struck = self.stands[p].without(self.next[p]).both(all);
+            if !struck.is_empty() {
+                mark_row(ranks, m, p, struck, round);
+                self.stands[p] = self.stands[p].without(struck);
+                changed = changed.with(p);
+            }
         }
+        self.changed = changed;
     }
-    changed
 }

@@ -1,5 +1,4 @@
 use crate::board::Board;
-use crate::marks::mark_rows;
 use crate::sides::Sides;
 use dense::row::Row;
 
@@ -23,9 +22,7 @@ impl Sides<'_> {
         ensures board { ReadyFor self.now ranks.new board.new }
     {
         self.strike_changed(board);
-        let next = board.next;
-        board.changed = mark_rows(ranks, self.module.size, self.contract.size, board, round);
-        board.stands = next;
+        board.mark_rows(ranks, self.module.size, self.contract.size, round);
     }
 
     /// Strikes round by round until a round strikes nothing; says how many rounds struck. Before the first round all pairs stand,
