@@ -57,11 +57,6 @@ module _ (M N : Machine) where
     pub narrowed_skip : ((p q : ℕ) → f p q k ≡ true) → Narrowed M N (λ p q. each_below (k + 1) (f p q)) was b
     narrowed_skip t = narrowed_more b (narrowed_none (λ p q. f p q k) b t)
 
-  -- the tests of a list of numbers, of which one is new
-  pub narrowed_push : (f : ℕ → ℕ → ℕ → Bool) (xs : List ℕ) (k : ℕ) (was b c : Board) → Narrowed M N (λ p q. list_all (f p q) xs) was b → Narrowed M N (λ p q. f p q k) b c
-      → Narrowed M N (λ p q. list_all (f p q) (xs ++ k ∷ [])) was c
-  narrowed_push f xs k was b c d e = narrowed_both _ _ _ was b c d e (λ p q. list_all-append (f p q) xs (k ∷ []) ∙ ap (λ (x : Bool). list_all (f p q) xs && x) (and_one (f p q k)))
-
   module _ (mover answer : ℕ → Bool) where
     module _ (k : ℕ) (was b : Board) (done : Narrowed M N (kept mover answer k) was b) where
       -- one state more
@@ -83,9 +78,4 @@ module _ (M N : Machine) where
 
       -- where k does not move
       pub kept_same : mover k ≡ false → Narrowed M N (kept mover answer (k + 1)) was b
-      kept_same m = narrowed_both (kept mover answer k) (λ p q. implies (eqb k p && mover p) (answer q)) (kept mover answer (k + 1)) was b b done
-          (narrowed_none _ b (λ p q. ⊎_elim
-          (λ (z : k ≡ p). subst (λ (x : ℕ). implies (eqb k x && mover x) (answer q) ≡ true) z (let e : eqb k k ≡ true = eq-eqb k k refl in grind (arith, nat_tests)))
-          (λ (z : k ≡ p → ⊥). let e = ne_eqb k p z in grind (arith, nat_tests))
-          (cases_eq k p)))
-          (λ p q. grind (arith, nat_tests))
+      kept_same m = narrowed_alike (kept mover answer k) (kept mover answer (k + 1)) was b (λ p q h l. grind (arith, nat_tests)) done

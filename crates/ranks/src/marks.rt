@@ -22,6 +22,7 @@ fn mark_row(ranks: &mut [u8], m: usize, p: usize, struck: Row, round: u16)
     requires { 2 * (p * m + m) ≤ length ranks.old }
     ensures { Marked m round (λ a b. (a == p) && in_row struck b) ranks.old ranks.new }
 {
+    // By number, since the ranks are written where they lie, and only those of struck pairs.
     for q in 0..m {
         if struck.has(q) {
             put_rank(ranks, p * m + q, round);
@@ -41,6 +42,7 @@ impl Board {
     {
         let all = Row::below(m);
         let mut changed = Row::empty();
+        // By number, since one state has its place in two arrays and among the ranks.
         for p in 0..n {
             let struck = self.stands[p].without(self.next[p]).both(all);
             if !struck.is_empty() {

@@ -15,6 +15,7 @@ use dense::row::Row;
 use labels::LabelSet;
 
 /// A machine with the number of its states and its tau closure as rows.
+// Fixed memory: nothing may be allocated, so there is a row for each state that a machine can have.
 #[derive(Drop)]
 pub(crate) struct Side<'a> {
     pub(crate) machine: &'a Dense,

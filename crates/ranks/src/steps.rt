@@ -17,6 +17,7 @@ impl Sides<'_> {
     {
         let movers = self.module.steps_into(label, Row::empty().with(state));
         let answers = self.contract.steps_into(label, board.stands[state]);
+        // The rows of those that move are narrowed where they lie: an iterator over all rows would say no more.
         for p in 0..self.module.size {
             if movers.has(p) {
                 board.next[p] = board.next[p].both(answers);
@@ -39,6 +40,7 @@ impl Sides<'_> {
         ensures { Leaves self.now (λ p q. each_below (module_of self.now).size (λ p'. implies (in_row board.old.changed p') (answers_all self.now board.old p q p'))) board.old board.new }
     {
         let changed = board.changed;
+        // A row has no iterator, and one would be as long as the loop over the states.
         for state in 0..self.module.size {
             if changed.has(state) {
                 self.strike_state(board, state);
