@@ -11,7 +11,8 @@ use Rattle.dense.specs.declared.row.Row.{Row}
 use Rattle.dense.specs.Rows.{in_row}
 use Rattle.clauses.specs.Ranks.{rank_at}
 use Rattle.clauses.specs.Workspaces.{pairs}
-use Rattle.clauses.proofs.Somes.{some_alike, each_in, each_out, each_alike, none_at}
+use Rattle.dense.proofs.Tests.{some_alike}
+use Rattle.clauses.proofs.Somes.{each_in, each_out, each_alike, none_at}
 use Rattle.ranks.specs.Boards.{BeforeRound, Narrowed}
 use Rattle.ranks.specs.Marks.{Marked}
 use Rattle.ranks.specs.Rounds.{stands, strikes_at, strike, strikes, ranks_of}
