@@ -46,8 +46,8 @@ impl Board {
         for p in 0..n {
             let struck = self.stands[p].without(self.next[p]).both(all);
             if !struck.is_empty() {
-                mark_row(ranks, m, p, struck, round);
                 self.stands[p] = self.stands[p].without(struck);
+                mark_row(ranks, m, p, struck, round);
                 changed = changed.with(p);
             }
         }
