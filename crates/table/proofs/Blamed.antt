@@ -4,7 +4,8 @@ use Rattle.std.proofs.lemmas.List.{append_assoc}
 use Rattle.std.proofs.lemmas.Bool.{cases_Bool, ltb-true, ltb-false, lt-ltb, eqb-false}
 use Rattle.table.specs.declared.fault.Fault.{Fault}
 use Rattle.source.specs.declared.table.Move.{Move}
-use Rattle.table.specs.Text.{pieces, onto_first}
+use Rattle.std.specs.List.{onto_first}
+use Rattle.table.specs.Text.{pieces}
 use Rattle.table.specs.Table.{and_then, head_line, move_line, moves_from, listing_from, read_text, Listing, with_moves}
 use Rattle.table.specs.Write.{parted, move_fields, head_fields, write, WellFormedMove, WellFormed}
 use Rattle.table.specs.Faults.{Free, MoveFault, Faulty, RefusesTheFirstFault}

@@ -1,7 +1,11 @@
-use Rattle.std.proofs.Common.{◌≡◌, ℕ, ◌+◌, ◌-◌, ◌<◌, ◌≤◌, true, false, cond, eqb, List, [], ◌∷◌, ◌++◌, length, get_or, take, drop, sym, refl, ap, ◌∙◌, arith}
-use Rattle.std.proofs.lemmas.List.{take_more, get_or-drop, length-drop, take-append-drop, take-take, drop-drop, drop-take}
-use Rattle.std.proofs.lemmas.Bool.{ne_eqb, eq-eqb}
-use Rattle.table.specs.Text.{cut, pieces, onto_first}
+use Rattle.std.proofs.Common.{◌≡◌, ℕ, ◌+◌, ◌<◌, Bool, true, false, cond, eqb, ltb, List, [], ◌∷◌, ◌++◌, length, take, drop, position, Some, None, Option, sym, refl, ap, ◌∙◌, arith}
+use Rattle.std.specs.List.{position_or_len, onto_first}
+use Rattle.std.proofs.lemmas.Bool.{ne_eqb, eq-eqb, ltb-true, ltb-false}
+use Rattle.std.proofs.lemmas.Option.{cond_some, none-some}
+use Rattle.std.proofs.lemmas.List.Sums.{fails_before_first}
+use Rattle.std.proofs.lemmas.List.Elements.{All-from_get_or}
+use Rattle.std.proofs.lemmas.List.Splits.{slice_split_first, slice_split_none}
+use Rattle.table.specs.Text.{pieces}
 use Rattle.table.specs.Faults.{Free}
 
 -- a part with no byte b, and then b, is the first piece
@@ -14,39 +18,29 @@ pub pieces_last : (b : ℕ) (p : List ℕ) → Free b p → pieces b p ≡ p ∷
 pieces_last b [] h = refl
 pieces_last b (x ∷ p) h = rw (ne_eqb x b h.0, pieces_last b p h.1)
 
--- a part with one byte more at its end
-pub cut_more : (t : List ℕ) (at i : ℕ) → at ≤ i → i < length t → cut t at (i + 1) ≡ cut t at i ++ get_or t i 0 ∷ []
-cut_more t at i l h =
-    let e : i + 1 - at ≡ i - at + 1 = omega arith in
-    let k : at + (i - at) ≡ i = omega arith in
-    let j : i - at < length (drop at t) = simp length-drop (omega arith) in
-    ap (λ n. take n (drop at t)) e ∙ take_more (drop at t) (i - at) 0 j ∙ rw (get_or-drop, k)
+-- the first piece ends where the byte b stands first
+pub pieces_first : (b i : ℕ) (xs : List ℕ) → position (λ x. eqb x b) xs ≡ Some i → (i < length xs) × (pieces b xs ≡ take i xs ∷ pieces b (drop (i + 1) xs))
+pieces_first b i xs h =
+    let c = cond_some (ltb (position_or_len (λ x. eqb x b) xs) (length xs)) (position_or_len (λ x. eqb x b) xs) i h in
+    let l = ltb-true _ _ c.0 in
+    (omega (arith, c.1, l), slice_split_first (λ x. eqb x b) xs 0 l ∙ ap (λ n. take n xs ∷ pieces b (drop (n + 1) xs)) c.1)
 
--- a part in two
-pub cut_two : (t : List ℕ) (at r end : ℕ) → at ≤ r → r ≤ end → end ≤ length t → cut t at end ≡ cut t at r ++ cut t r end
-cut_two t at r end l m h =
-    let e : end - at ≡ (r - at) + (end - r) = omega arith in
-    let le : r - at ≤ (r - at) + (end - r) = omega arith in
-    let k : at + (r - at) ≡ r = omega arith in
-    ap (λ n. take n (drop at t)) e ∙
-    sym (take-append-drop (r - at) (take ((r - at) + (end - r)) (drop at t))) ∙
-    rw (take-take (r - at) ((r - at) + (end - r)) (drop at t) le, drop-take (r - at) (end - r) (drop at t), drop-drop (r - at) at t, k)
+-- a choice between some number and none that gives none
+pub cond_none : (t : Bool) (n : ℕ) → cond t (Some n) None ≡ None → t ≡ false
+cond_none true n h = absurd (none-some n (sym h))
+cond_none false n h = refl
 
--- the first byte of a part, and the rest of the part
-pub cut_first : (t : List ℕ) (at end : ℕ) → at < end → end ≤ length t → cut t at end ≡ get_or t at 0 ∷ cut t (at + 1) end
-cut_first t at end l h =
-    let one : at ≤ at = omega arith in
-    let lt : at < length t = omega arith in
-    let z : at - at ≡ 0 = omega arith in
-    let one_cut : cut t at (at + 1) ≡ get_or t at 0 ∷ [] = cut_more t at at one lt ∙ ap (λ n. take n (drop at t) ++ get_or t at 0 ∷ []) z in
-    cut_two t at (at + 1) end (omega arith) (omega arith) h ∙ ap (λ (xs : List ℕ). xs ++ cut t (at + 1) end) one_cut
+-- a choice between something and none that gives some number
+pub cond_some_of : (t : Bool) (o : Option ℕ) (n : ℕ) → cond t o None ≡ Some n → (t ≡ true) × (o ≡ Some n)
+cond_some_of true o n h = (refl, h)
+cond_some_of false o n h = absurd (none-some n h)
 
--- a part up to the first b, and the rest
-pub pieces_cut : (b : ℕ) (t : List ℕ) (at r end : ℕ) → at ≤ r → r < end → end ≤ length t → Free b (cut t at r) → get_or t r 0 ≡ b → pieces b (cut t at end) ≡ cut t at r ∷ pieces b (cut t (r + 1) end)
-pieces_cut b t at r end l m h f e =
-    let le : r ≤ end = omega arith in
-    ap (pieces b) (cut_two t at r end l le h ∙ ap (λ (xs : List ℕ). cut t at r ++ xs) (cut_first t r end m h) ∙ ap (λ x. cut t at r ++ x ∷ cut t (r + 1) end) e) ∙
-    pieces_past b (cut t at r) (cut t (r + 1) end) f
+-- with no byte b there is one piece
+pub pieces_none : (b : ℕ) (xs : List ℕ) → position (λ x. eqb x b) xs ≡ None → pieces b xs ≡ xs ∷ []
+pieces_none b xs h =
+    let f = cond_none (ltb (position_or_len (λ x. eqb x b) xs) (length xs)) (position_or_len (λ x. eqb x b) xs) h in
+    let l = ltb-false (position_or_len (λ x. eqb x b) xs) (length xs) f in
+    slice_split_none (λ x. eqb x b) xs (All-from_get_or (λ x. eqb x b ≡ false) xs 0 (λ i m. fails_before_first (λ x. eqb x b) xs i 0 (omega arith)))
 
 -- a byte more on the first piece leaves a first piece
 onto_first_some : (x : ℕ) (ps : List (List ℕ)) → (p : List ℕ) × (qs : List (List ℕ)) × (onto_first x ps ≡ p ∷ qs)

@@ -5,8 +5,8 @@ use Rattle.std.proofs.lemmas.Slice.Eq.{bytes_eq-Decides}
 use Rattle.table.specs.declared.fault.Fault.{Fault}
 use Rattle.source.specs.declared.table.Move.{Move}
 use Rattle.table.specs.declared.head.Head.{Head}
-use Rattle.table.specs.declared.moves.Way.{Way}
-use Rattle.table.specs.declared.moves.Way.TheVariants.{Receive, Send, Silent}
+use Rattle.table.specs.declared.field.Way.{Way}
+use Rattle.table.specs.declared.field.Way.TheVariants.{Receive, Send, Silent}
 use Rattle.table.specs.declared.line.Kind.{Kind}
 use Rattle.table.specs.Text.{figure_below}
 use Rattle.table.specs.Table.{and_then, number_at, states_at, way_of, way_in, way_at, label_at, move_of, head_of, kind_of, if_table, if_move, head_line, move_line}

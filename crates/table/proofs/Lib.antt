@@ -1,7 +1,7 @@
 pub mod Results
 pub mod Cuts
 pub mod Figures
-pub mod Places
+pub mod Commas
 pub mod Shapes
 pub mod Turns
 pub mod Stored

@@ -1,31 +1,18 @@
-use Rattle.std.proofs.Common.{◌≡◌, ℕ, ◌<◌, true, eqb, List, [], ◌∷◌, sym, refl, ap, ◌∙◌, inl, inr, arith}
+use Rattle.std.proofs.Common.{◌≡◌, ℕ, ◌<◌, true, List, [], ◌∷◌, ap, ◌∙◌, arith}
 use Rattle.std.specs.List.{AllByRecursion}
 use Rattle.std.specs.Char.{is_ascii_digit}
 use Rattle.std.specs.Str.{all_ascii_digits}
 use Rattle.std.proofs.ByRecursion.{All-append}
-use Rattle.std.proofs.lemmas.Bool.{and_parts, cases_Bool, eqb-true, leb-true}
-use Rattle.table.specs.Text.{pieces, onto_first}
+use Rattle.std.proofs.lemmas.Bool.{and_parts, leb-true}
+use Rattle.std.proofs.lemmas.List.Splits.{join_with_byte-slice_split}
+use Rattle.table.specs.Text.{pieces}
 use Rattle.table.specs.Write.{parted}
 use Rattle.table.specs.Faults.{Free}
-use Rattle.table.proofs.Cuts.{pieces_past, pieces_last, pieces_some}
-
--- a byte more in front of the first piece is one in front of the text
-parted_onto_first : (b x : ℕ) (ps : List (List ℕ)) → parted b (onto_first x ps) ≡ x ∷ parted b ps
-parted_onto_first b x [] = refl
-parted_onto_first b x (p ∷ []) = refl
-parted_onto_first b x (p ∷ q ∷ ps) = refl
+use Rattle.table.proofs.Cuts.{pieces_past, pieces_last}
 
 -- the pieces parted again are the text
 pub parted_pieces : (b : ℕ) (xs : List ℕ) → parted b (pieces b xs) ≡ xs
-parted_pieces b [] = refl
-parted_pieces b (x ∷ xs) =
-    elim (cases_Bool (eqb x b)) [
-      | inl t ↦
-          let p = pieces_some b xs in
-          let e : parted b ([] ∷ pieces b xs) ≡ b ∷ parted b (pieces b xs) = rw p.2 in
-          rw t (e ∙ ap (λ (ys : List ℕ). b ∷ ys) (parted_pieces b xs) ∙ ap (λ y. y ∷ xs) (sym (eqb-true x b t)))
-      | inr f ↦ rw f (parted_onto_first b x (pieces b xs) ∙ ap (λ (ys : List ℕ). x ∷ ys) (parted_pieces b xs))
-    ]
+parted_pieces b xs = join_with_byte-slice_split b xs
 
 -- parts with no byte b in them, parted by b, are the pieces
 pub pieces_parted : (b : ℕ) (p : List ℕ) (ps : List (List ℕ)) → AllByRecursion (Free b) (p ∷ ps) → pieces b (parted b (p ∷ ps)) ≡ p ∷ ps

@@ -1,9 +1,7 @@
-use Rattle.std.proofs.Common.{◌≡◌, ℕ, zero, suc, ◌-◌, List, [], ◌∷◌, map, length, get_or, take, drop, Err, sym, refl, ap, ◌∙◌, subst, arith}
-use Rattle.std.specs.List.{AllByRecursion}
-use Rattle.table.specs.declared.line.Stage.{Stage}
-use Rattle.table.specs.declared.line.Stage.TheVariants.{BeforeHead, AfterHead}
+use Rattle.std.proofs.Common.{◌≡◌, ℕ, ◌<◌, List, [], ◌∷◌, map, Bor, length, get_or, take, drop, Err, sym, refl, ap, ◌∙◌, arith}
+use Rattle.table.specs.declared.line.Kind.{Kind}
 use Rattle.table.specs.declared.fault.Fault.{Fault}
-use Rattle.table.specs.Table.{move_of, head_of, line_says, line_by_kind, kind_of}
+use Rattle.table.specs.Table.{move_of, head_of, kind_of, move_line}
 
 -- other than four fields are no move
 pub move_shape : {X : Type 0} (n k : ℕ) (f : X → List ℕ) (xs : List X) → (length xs ≡ 4 → ⊥) → move_of n k (map f xs) ≡ Err (Fault.Misshapen k)
@@ -47,6 +45,18 @@ pub five_of : {X : Type 0} (xs : List X) (d : X) → length xs ≡ 5 → xs ≡ 
 five_of [] d h = absurd (omega arith)
 five_of (a ∷ xs) d h = ap (λ (ys : List _). a ∷ ys) (four_of xs d (omega arith))
 
+-- a field, or no bytes where there is none
+abbrev pub field : List (Bor (List ℕ)) → ℕ → List ℕ
+field fs i = (get_or fs i (record { ref_ptr = (0, 0); now = [] })).now
+
+-- the four fields of a move
+pub move_at : (n k : ℕ) (fs : List (Bor (List ℕ))) → length fs ≡ 4 → move_of n k (map (λ f. f.now) fs) ≡ move_of n k (field fs 0 ∷ field fs 1 ∷ field fs 2 ∷ field fs 3 ∷ [])
+move_at n k fs h = ap (λ (ys : List (Bor (List ℕ))). move_of n k (map (λ f. f.now) ys)) (four_of fs _ h)
+
+-- the two fields of a first line
+pub head_at : (k : ℕ) (fs : List (Bor (List ℕ))) → length fs ≡ 2 → head_of k (map (λ f. f.now) fs) ≡ head_of k (field fs 0 ∷ field fs 1 ∷ [])
+head_at k fs h = ap (λ (ys : List (Bor (List ℕ))). head_of k (map (λ f. f.now) ys)) (two_of fs _ h)
+
 -- six fields are enough to tell
 pub move_six : (n k : ℕ) (fs : List (List ℕ)) → move_of n k (take 5 fs) ≡ move_of n k fs
 move_six n k [] = refl
@@ -63,27 +73,12 @@ head_six k (a ∷ []) = refl
 head_six k (a ∷ b ∷ []) = refl
 head_six k (a ∷ b ∷ c ∷ cs) = refl
 
--- the first field and the others, of the places that were told
-pub line_by_places : {X : Type 0} (f : X → List ℕ) (d : X) (stage : Stage) (k : ℕ) (xs : List X) (many : ℕ) (w : List ℕ) (fs : List (List ℕ)) → map f (take many xs) ≡ w ∷ take 5 fs → line_by_kind stage (kind_of (f (get_or xs 0 d))) k (map f (take (many - 1) (drop 1 xs))) ≡ line_says stage k (w ∷ fs)
-line_by_places f d stage k xs zero w fs e = let z : ◌≡◌ {A = ℕ} 0 1 = cc in absurd (omega arith)
-line_by_places f d stage k [] (suc n) w fs e = let z : ◌≡◌ {A = ℕ} 0 1 = cc in absurd (omega arith)
-line_by_places f d BeforeHead k (x ∷ xs) (suc n) w fs e =
-    let a : f x ≡ w = cc in
-    let b : map f (take n xs) ≡ take 5 fs = cc in
-    let j : suc n - 1 ≡ n = omega arith in
-    let h : head_of k (map f (take (suc n - 1) xs)) ≡ head_of k fs = ap (λ i. head_of k (map f (take i xs))) j ∙ ap (head_of k) b ∙ head_six k fs in
-    rw (a, h)
-line_by_places f d (AfterHead t) k (x ∷ xs) (suc n) w fs e =
-    let a : f x ≡ w = cc in
-    let b : map f (take n xs) ≡ take 5 fs = cc in
-    let j : suc n - 1 ≡ n = omega arith in
-    let h : move_of t.states k (map f (take (suc n - 1) xs)) ≡ move_of t.states k fs = ap (λ i. move_of t.states k (map f (take i xs))) j ∙ ap (move_of t.states k) b ∙ move_six t.states k fs in
-    rw (a, h)
-
--- what holds of all places holds of the first and of the others
-pub all_places : {X : Type 0} (P : X → Type 0) (f : X → List ℕ) (d : X) (xs : List X) (many : ℕ) (w : List ℕ) (fs : List (List ℕ)) → map f (take many xs) ≡ w ∷ fs → AllByRecursion P (take many xs) → P (get_or xs 0 d) × AllByRecursion P (take (many - 1) (drop 1 xs))
-all_places P f d xs zero w fs e h = let z : ◌≡◌ {A = ℕ} 0 1 = cc in absurd (omega arith)
-all_places P f d [] (suc n) w fs e h = let z : ◌≡◌ {A = ℕ} 0 1 = cc in absurd (omega arith)
-all_places P f d (x ∷ xs) (suc n) w fs e h =
-    let j : suc n - 1 ≡ n = omega arith in
-    (h.0, subst (λ i. AllByRecursion P (take i xs)) (sym j) h.1)
+-- a line of the move kind is read by the fields after its first
+pub move_line_by : (n k : ℕ) (fs : List (Bor (List ℕ))) (ps : List (List ℕ)) → map (λ f. f.now) fs ≡ take 6 ps → 0 < length fs → kind_of (field fs 0) ≡ Kind.Move → move_of n k (map (λ f. f.now) (drop 1 fs)) ≡ move_line n k ps
+move_line_by n k [] ps e l h = absurd (omega arith)
+move_line_by n k (x ∷ xs) [] e l h = let z : ◌≡◌ {A = ℕ} 0 1 = cc in absurd (omega arith)
+move_line_by n k (x ∷ xs) (p ∷ ps) e l h =
+    let a : x.now ≡ p = cc in
+    let b : map (λ f. f.now) xs ≡ take 5 ps = cc in
+    let m : kind_of p ≡ Kind.Move = sym (ap kind_of a) ∙ h in
+    rw (b, m, move_six n k ps)

@@ -4,11 +4,9 @@ use Rattle.std.proofs.lemmas.Bool.{cases_lt, lt-ltb}
 use Rattle.table.specs.declared.fault.Fault.{Fault}
 use Rattle.source.specs.declared.table.Move.{Move}
 use Rattle.table.specs.declared.checked.Summary.{Summary}
-use Rattle.table.specs.declared.line.Stage.{Stage}
-use Rattle.table.specs.declared.line.Stage.TheVariants.{BeforeHead, AfterHead}
 use Rattle.table.specs.Table.{read_text, Listing, moves_of, summary_of}
-use Rattle.table.proofs.Turns.{rest, onto}
-use Rattle.table.proofs.Results.{no_err, no_ok}
+use Rattle.table.proofs.Turns.{onto}
+use Rattle.table.proofs.Results.{no_err}
 
 -- a text without fault is not too long
 pub sound_short : (text : List ℕ) → is_ok (read_text text) ≡ true → length text ≤ 40960
@@ -49,22 +47,23 @@ module _ (all was ms : List Move) (many : ℕ) (x : Move) (r : Result Listing Fa
       let now : take (many + 1) (set ms many x) ++ moves_of r ≡ all = ap (λ (ys : List Move). ys ++ moves_of r) (take_more_set ms many x room) ∙ append_assoc (take many ms) (x ∷ []) (moves_of r) ∙ whole in
       ((onto_moves x r had.0).0, omega arith, same, now)
 
--- no move is left after the last line
-no_moves : (s : Stage) (k : ℕ) → moves_of (rest s k ([] ∷ [])) ≡ []
-no_moves BeforeHead k = refl
-no_moves (AfterHead h) k = refl
-
 -- where nothing is left, all is stored
-pub stored_all : (all was ms : List Move) (many : ℕ) (s : Stage) (k : ℕ) → Storing all was ms many (rest s k ([] ∷ [])) → ms ≡ all ++ drop (length all) was
-stored_all all was ms many s k h =
-    let a : take many ms ≡ all = sym (append-nil (take many ms)) ∙ ap (λ (ys : List Move). take many ms ++ ys) (sym (no_moves s k)) ∙ h.3 in
+pub stored_all : (all was ms : List Move) (many : ℕ) (r : Result Listing Fault) → Storing all was ms many r → moves_of r ≡ [] → ms ≡ all ++ drop (length all) was
+stored_all all was ms many r h e =
+    let a : take many ms ≡ all = sym (append-nil (take many ms)) ∙ ap (λ (ys : List Move). take many ms ++ ys) (sym e) ∙ h.3 in
     let n : many ≡ length all = sym (length-take-le many ms h.1) ∙ ap length a in
     sym (take-append-drop many ms) ∙ ap (λ (ys : List Move). ys ++ drop many ms) a ∙ ap (λ (ys : List Move). all ++ ys) (h.2 ∙ ap (λ j. drop j was) n)
 
--- a refused rest is none without fault
-pub no_fault : {B : Type 0} (r : Result Listing Fault) (f : Fault) → is_ok r ≡ true → r ≡ Err f → B
-no_fault (Ok t) f h e = no_ok f t e
-no_fault (Err g) f h e = let z : ◌≡◌ {A = ℕ} 0 1 = cc in absurd (omega arith)
+-- where no place is left, nothing is left
+pub none_left : (all was ms : List Move) (many : ℕ) (r : Result Listing Fault) → Storing all was ms many r → length all ≤ length ms → length ms ≤ many → moves_of r ≡ []
+none_left all was ms many r h fits l =
+    let n = sym (length-append (take many ms) (moves_of r)) ∙ ap length h.3 in
+    let t = length-take-le many ms h.1 in
+    length_zero (moves_of r) (omega arith)
+  where
+    length_zero : (xs : List Move) → length xs ≡ 0 → xs ≡ []
+    length_zero [] z = refl
+    length_zero (x ∷ xs) z = absurd (omega arith)
 
 -- a summary is of a text without fault, and tells the number of its moves
 pub summary_known : (r : Result Listing Fault) (h : Summary) → summary_of r ≡ Ok h → (is_ok r ≡ true) × (length (moves_of r) ≡ h.moves)

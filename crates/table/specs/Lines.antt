@@ -1,14 +1,16 @@
-use Rattle.std.specs.Prelude.{◌≡◌, ℕ, ◌+◌, ◌<◌, cond, List, [], ◌∷◌, length, Some, None, Ok, Err, Option, Result}
+use Rattle.std.specs.Prelude.{◌≡◌, ℕ, ◌+◌, ◌<◌, cond, List, [], ◌∷◌, drop, Some, None, Ok, Err, Option, Result}
 use Rattle.table.specs.declared.fault.Fault.{Fault}
 use Rattle.table.specs.declared.line.Stage.{Stage}
 use Rattle.table.specs.declared.line.Line.{Line}
+use Rattle.table.specs.declared.line.Line.TheVariants.{First, Step}
+use Rattle.source.specs.declared.table.Move.{Move}
 use Rattle.table.specs.declared.reader.Reader.{Reader}
-use Rattle.table.specs.Text.{cut, pieces}
+use Rattle.table.specs.Text.{pieces}
 use Rattle.table.specs.Table.{empty, line_says, stage_after}
 
 -- the lines from where a reader stands, and last what follows the last line feed
 abbrev pub left : Reader → List (List ℕ)
-left r = pieces 10 (cut r.text.now r.at (length r.text.now))
+left r = pieces 10 (drop r.at r.text.now)
 
 -- the first of the lines that are left, where it is line k
 abbrev pub first_of : Stage → ℕ → List (List ℕ) → Option (Result Line Fault)
@@ -19,6 +21,13 @@ first_of s k (l ∷ m ∷ ls) = Some (line_says s k (pieces 44 l))
 -- what a reader hands out next
 abbrev pub next_line : Reader → Option (Result Line Fault)
 next_line r = first_of r.stage r.line (left r)
+
+-- the move in what was handed out
+abbrev pub move_in : Option (Result Line Fault) → Option Move
+move_in None = None
+move_in (Some (Ok (First h))) = None
+move_in (Some (Ok (Step m))) = Some m
+move_in (Some (Err f)) = None
 
 abbrev pub behind_first : List (List ℕ) → List (List ℕ)
 behind_first [] = []

@@ -1,26 +1,17 @@
-use Rattle.std.specs.Prelude.{ℕ, ◌+◌, ◌≤◌, Bool, true, false, cond, List, [], ◌∷◌, ◌++◌, length, drop, Some, None, Ok, Err, codes, Option, Result, ◌==◌, nat_lt}
+use Rattle.std.specs.Prelude.{ℕ, ◌+◌, Bool, true, false, cond, List, [], ◌∷◌, ◌++◌, length, drop, Some, None, Ok, Err, codes, Option, Result, ◌==◌, nat_lt}
 use Rattle.std.specs.Str.{bytes_eq}
-use Rattle.table.specs.declared.place.Place.{Place}
 use Rattle.table.specs.declared.fault.Fault.{Fault}
 use Rattle.source.specs.declared.table.Move.{Move}
 use Rattle.table.specs.declared.checked.Summary.{Summary}
 use Rattle.table.specs.declared.head.Head.{Head}
-use Rattle.table.specs.declared.moves.Way.{Way}
-use Rattle.table.specs.declared.moves.Way.TheVariants.{Receive, Send, Silent}
+use Rattle.table.specs.declared.field.Way.{Way}
+use Rattle.table.specs.declared.field.Way.TheVariants.{Receive, Send, Silent}
 use Rattle.table.specs.declared.line.Kind.{Kind}
 use Rattle.table.specs.declared.line.Stage.{Stage}
 use Rattle.table.specs.declared.line.Stage.TheVariants.{BeforeHead, AfterHead}
 use Rattle.table.specs.declared.line.Line.{Line}
 use Rattle.table.specs.declared.line.Line.TheVariants.{First, Step}
-use Rattle.table.specs.Text.{cut, pieces, figure_below}
-
--- the bytes at a place of a text
-abbrev pub part : List ℕ → Place → List ℕ
-part text p = cut text p.at p.end
-
--- the place lies in the text
-abbrev pub Within : List ℕ → Place → Type 0
-Within text p = (p.at ≤ p.end) × (p.end ≤ length text)
+use Rattle.table.specs.Text.{pieces, figure_below}
 
 -- go on with what was read, or keep the fault
 abbrev pub and_then : {A B : Type 0} → Result A Fault → (A → Result B Fault) → Result B Fault
@@ -101,12 +92,7 @@ abbrev pub move_line : ℕ → ℕ → List (List ℕ) → Result Move Fault
 move_line n k [] = Err (Fault.Misshapen k)
 move_line n k (w ∷ fs) = if_move (kind_of w) (move_of n k fs) (Err (Fault.Misshapen k))
 
--- what a line says before the first line or after it, by its kind and the fields after that
-abbrev pub line_by_kind : Stage → Kind → ℕ → List (List ℕ) → Result Line Fault
-line_by_kind BeforeHead w k fs = and_then (if_table w (head_of k fs) (Err (Fault.Misshapen k))) (λ t. Ok (First t))
-line_by_kind (AfterHead t) w k fs = and_then (if_move w (move_of t.states k fs) (Err (Fault.Misshapen k))) (λ m. Ok (Step m))
-
--- the same by all its fields
+-- what a line says before the first line or after it, by its fields
 abbrev pub line_says : Stage → ℕ → List (List ℕ) → Result Line Fault
 line_says BeforeHead k fs = and_then (head_line k fs) (λ t. Ok (First t))
 line_says (AfterHead t) k fs = and_then (move_line t.states k fs) (λ m. Ok (Step m))

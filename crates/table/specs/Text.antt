@@ -1,19 +1,10 @@
-use Rattle.std.specs.Prelude.{ℕ, ◌+◌, ◌-◌, ◌*◌, Bool, true, false, cond, not, ◌&&◌, List, [], ◌∷◌, take, drop, Some, None, Option, ◌==◌, nat_lt}
+use Rattle.std.specs.Prelude.{ℕ, ◌+◌, ◌-◌, ◌*◌, Bool, true, false, cond, not, ◌&&◌, List, [], ◌∷◌, Some, None, Option, ◌==◌, nat_lt}
 use Rattle.std.specs.Char.{is_ascii_digit}
-
--- the bytes of a text from one place up to another
-abbrev pub cut : List ℕ → ℕ → ℕ → List ℕ
-cut text at end = take (end - at) (drop at text)
-
--- a byte more at the front of the first piece
-abbrev pub onto_first : ℕ → List (List ℕ) → List (List ℕ)
-onto_first x [] = (x ∷ []) ∷ []
-onto_first x (p ∷ ps) = (x ∷ p) ∷ ps
+use Rattle.std.specs.List.{slice_split}
 
 -- the pieces between the bytes b: one more than there are such bytes
 abbrev pub pieces : ℕ → List ℕ → List (List ℕ)
-pieces b [] = [] ∷ []
-pieces b (x ∷ xs) = cond (x == b) ([] ∷ pieces b xs) (onto_first x (pieces b xs))
+pieces b xs = slice_split (λ x. x == b) xs
 
 -- digits read from the left, after the number so far, while it stays below a limit
 abbrev pub figure_on : ℕ → ℕ → List ℕ → Option ℕ

@@ -1,13 +1,11 @@
 use Rattle.std.specs.Prelude.{◌≡◌, ℕ, ◌-◌, ◌<◌, ◌≤◌, cond, ◌↔◌, List, [], ◌∷◌, ◌++◌, length, Ok, codes, decimal, nat_lt}
-use Rattle.std.specs.List.{flat_map, AllByRecursion}
+use Rattle.std.specs.List.{flat_map, join_with_byte, AllByRecursion}
 use Rattle.source.specs.declared.table.Move.{Move}
 use Rattle.table.specs.Table.{Listing, read_text}
 
 -- parts with a byte between each two
 abbrev pub parted : ℕ → List (List ℕ) → List ℕ
-parted b [] = []
-parted b (p ∷ []) = p
-parted b (p ∷ q ∷ ps) = p ++ b ∷ parted b (q ∷ ps)
+parted b ps = join_with_byte b ps
 
 -- fields with commas between them, and a line feed
 abbrev pub written_line : List (List ℕ) → List ℕ

@@ -1,5 +1,6 @@
 ghost use Rattle.std.specs.Prelude.{◌≡◌, ◌≤◌, true, ◌++◌, length, drop, is_ok};
 ghost use Rattle.table.specs.Table.{read_text, summary_of, moves_of, in_room, stored_in};
+ghost use Rattle.table.specs.Lines.{next_line, move_in, Onward};
 ghost use Rattle.table.specs.Write.{ReadsWhatIsWritten};
 ghost use Rattle.table.specs.Faults.{RefusesTheFirstFault};
 
@@ -68,19 +69,16 @@ fn summarize(text: &[u8]) -> Result<Summary, Fault>
         return Err(Fault::TooLong);
     }
     let mut reader = Reader::new(text);
-    let mut moves = 0;
     while let Some(read) = reader.next() {
-        match read? {
-            Line::First(_) => {}
-            Line::Step(_) => moves += 1,
-        }
+        read?;
     }
     match reader.stage {
         Stage::BeforeHead => Err(Fault::Unended { line: reader.line }),
+        // The reader stands a line past the last move, and the moves begin in line 2.
         Stage::AfterHead(head) => Ok(Summary {
             states: head.states,
             start: head.start,
-            moves,
+            moves: reader.line - 2,
         }),
     }
 }
@@ -92,14 +90,23 @@ fn fill(text: &[u8], moves: &mut [Move])
     ensures { moves.new ≡ moves_of (read_text text.now) ++ drop (length (moves_of (read_text text.now))) moves.old }
 {
     let mut reader = Reader::new(text);
-    let mut many = 0;
-    while let Some(read) = reader.next() {
-        let Ok(line) = read else {
+    // The first line has no move.
+    let _ = reader.next();
+    for place in moves.iter_mut() {
+        let Some(step) = next_move(&mut reader) else {
             return;
         };
-        if let Line::Step(step) = line {
-            moves[many] = step;
-            many += 1;
-        }
+        *place = step;
+    }
+}
+
+/// The move in the next line, and nothing where there is another line or none.
+fn next_move(reader: &mut Reader<'_>) -> Option<Move>
+    ensures value { result ≡ move_in (next_line reader.old) }
+    ensures onward { Onward (next_line reader.old) reader.old reader.new }
+{
+    match reader.next() {
+        Some(Ok(Line::Step(step))) => Some(step),
+        _ => None,
     }
 }

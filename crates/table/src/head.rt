@@ -1,13 +1,8 @@
-ghost use Rattle.std.specs.Prelude.{◌≡◌, [], ◌∷◌, map};
-ghost use Rattle.std.specs.List.{AllByRecursion};
-ghost use Rattle.table.specs.Table.{part, Within, states_at, head_of};
+ghost use Rattle.std.specs.Prelude.{◌≡◌, map};
+ghost use Rattle.table.specs.Table.{head_of};
 
 use crate::fault::Fault;
-use crate::figure::number;
-use crate::place::{Place, bytes_at};
-
-/// A table has fewer states, so that a byte holds each.
-const STATES: u16 = 256;
+use crate::field::Field;
 
 /// The first line of a table.
 #[derive(Clone, Copy, PartialEq, Eq, Debug)]
@@ -16,32 +11,14 @@ pub struct Head {
     pub start: u8,
 }
 
-/// The fields after the kind, as the number of states and the start.
-pub(crate) fn head_of(text: &[u8], rest: &[Place], line: usize) -> Result<Head, Fault>
-    requires { AllByRecursion (Within text.now) rest.now }
-    ensures { result ≡ head_of line (map (part text.now) rest.now) }
+/// The fields after the kind, as the number of states and the start, which lies below it.
+pub(crate) fn head_of(rest: &[&[u8]], line: usize) -> Result<Head, Fault>
+    ensures { result ≡ head_of line (map (λ f. f.now) rest.now) }
 {
     let [states, start] = rest else {
         return Err(Fault::Misshapen { line });
     };
-    head_by(bytes_at(text, states), bytes_at(text, start), line)
-}
-
-/// The states come first, since the start lies below their number.
-fn head_by(states: &[u8], start: &[u8], line: usize) -> Result<Head, Fault>
-    ensures { result ≡ head_of line (states.now ∷ start.now ∷ []) }
-{
-    let states = states_of(states, line)?;
-    let start = number(start, states as u16, line, 3)?;
+    let states = Field::new(line, 2, states).states()?;
+    let start = Field::new(line, 3, start).figure(states)?;
     Ok(Head { states, start })
-}
-
-/// A table has at least one state.
-fn states_of(s: &[u8], line: usize) -> Result<u8, Fault>
-    ensures { result ≡ states_at line s.now }
-{
-    match number(s, STATES, line, 2)? {
-        0 => Err(Fault::Figure { line, field: 2 }),
-        n => Ok(n),
-    }
 }

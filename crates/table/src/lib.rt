@@ -4,11 +4,11 @@
 mod checked;
 mod display;
 mod fault;
+mod field;
 mod figure;
 mod head;
 mod line;
 mod moves;
-mod place;
 mod reader;
 
 pub use checked::{Checked, LONGEST, Summary, check};

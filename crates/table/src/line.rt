@@ -1,12 +1,11 @@
-ghost use Rattle.std.specs.Prelude.{◌≡◌, map};
-ghost use Rattle.std.specs.List.{AllByRecursion};
+ghost use Rattle.std.specs.Prelude.{◌≡◌, map, take};
 ghost use Rattle.table.specs.Text.{pieces};
-ghost use Rattle.table.specs.Table.{part, Within, kind_of, line_by_kind, line_says, stage_after};
+ghost use Rattle.table.specs.Table.{kind_of, line_says, stage_after};
 
 use crate::fault::Fault;
 use crate::head::{Head, head_of};
 use crate::moves::move_of;
-use crate::place::{Place, bytes_at, fields_of};
+use arrayvec::ArrayVec;
 use source::table::Move;
 
 /// What a line says.
@@ -16,6 +15,7 @@ pub enum Line {
     Step(Move),
 }
 
+// Not an `Option<Head>`: a table line before the first, and a move line after it, are told by name.
 /// Whether the first line stands behind, and what it said.
 #[derive(Clone, Copy)]
 pub(crate) enum Stage {
@@ -43,14 +43,33 @@ enum Kind {
     Other,
 }
 
-/// Reads the line at a place of the text.
-pub(crate) fn read_line(text: &[u8], place: Place, stage: Stage, line: usize) -> Result<Line, Fault>
-    requires { Within text.now place }
-    ensures { result ≡ line_says stage line (pieces 44 (part text.now place)) }
+/// One more than the fields of any line in order, so that too many show.
+const MOST: usize = 6;
+
+/// Reads a line: a table line stands first and once, and only move lines follow it.
+pub(crate) fn read_line(bytes: &[u8], stage: Stage, line: usize) -> Result<Line, Fault>
+    ensures { result ≡ line_says stage line (pieces 44 bytes.now) }
 {
-    let fields = fields_of(text, place);
-    let kind = kind_of(bytes_at(text, &fields.places[0]));
-    line_by(text, &fields.places[1..fields.many], stage, kind, line)
+    let fields = fields_of(bytes);
+    let [word, rest @ ..] = fields.as_slice() else {
+        return Err(Fault::Misshapen { line });
+    };
+    match (stage, kind_of(word)) {
+        (Stage::BeforeHead, Kind::Table) => head_of(rest, line).map(Line::First),
+        (Stage::AfterHead(head), Kind::Move) => move_of(rest, head.states, line).map(Line::Step),
+        _ => Err(Fault::Misshapen { line }),
+    }
+}
+
+/// The fields of a line, which commas part, up to the first that is too many.
+fn fields_of(line: &[u8]) -> ArrayVec<&[u8], MOST>
+    ensures { map (λ f. f.now) result.items ≡ take 6 (pieces 44 line.now) }
+{
+    let mut fields = ArrayVec::new();
+    for field in line.split(|b| *b == b',').take(MOST) {
+        fields.push(field);
+    }
+    fields
 }
 
 /// The kind that the first word names.
@@ -63,28 +82,5 @@ fn kind_of(word: &[u8]) -> Kind
         Kind::Move
     } else {
         Kind::Other
-    }
-}
-
-/// A table line stands first and once, and only move lines follow it.
-fn line_by(
-    text: &[u8],
-    rest: &[Place],
-    stage: Stage,
-    kind: Kind,
-    line: usize,
-) -> Result<Line, Fault>
-    requires { AllByRecursion (Within text.now) rest.now }
-    ensures { result ≡ line_by_kind stage kind line (map (part text.now) rest.now) }
-{
-    match (stage, kind) {
-        (Stage::BeforeHead, Kind::Table) => Ok(Line::First(head_of(text, rest, line)?)),
-        (Stage::AfterHead(head), Kind::Move) => Ok(Line::Step(move_of(
-            text,
-            rest,
-            head.states,
-            line,
-        )?)),
-        _ => Err(Fault::Misshapen { line }),
     }
 }

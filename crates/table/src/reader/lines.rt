@@ -1,33 +1,37 @@
-ghost use Rattle.std.specs.Prelude.{◌≡◌};
+ghost use Rattle.std.specs.Prelude.{◌≡◌, ◌==◌, position};
 ghost use Rattle.table.specs.Lines.{next_line, Onward};
 
 use super::Reader;
 use crate::fault::Fault;
 use crate::line::{Line, read_line};
-use crate::place::{Place, until};
 
 impl Reader<'_> {
+    // No `Iterator`: at a fault the reader stays and answers it again, so its items would have no end.
     /// The next line or the fault in it, and nothing where the text ends; at a fault the reader stays.
     pub fn next(&mut self) -> Option<Result<Line, Fault>>
         ensures value { result ≡ next_line self.old }
         ensures onward { Onward result self.old self.new }
     {
-        let text = self.text;
-        if self.at == text.len() {
+        let rest = &self.text[self.at..];
+        if rest.is_empty() {
             return None;
         }
-        let end = until(text, self.at, text.len(), b'\n');
-        if end == text.len() {
+        let Some(end) = end_of_line(rest) else {
             return Some(Err(Fault::Unended { line: self.line }));
-        }
-        let place = Place { at: self.at, end };
-        let line = match read_line(text, place, self.stage, self.line) {
-            Ok(line) => line,
-            Err(fault) => return Some(Err(fault)),
         };
-        self.at = end + 1;
-        self.line += 1;
-        self.stage = self.stage.after(line);
-        Some(Ok(line))
+        let read = read_line(&rest[..end], self.stage, self.line);
+        if let Ok(line) = read {
+            self.at += end + 1;
+            self.line += 1;
+            self.stage = self.stage.after(line);
+        }
+        Some(read)
     }
+}
+
+/// Where the line feed stands that ends the first line.
+fn end_of_line(rest: &[u8]) -> Option<usize>
+    ensures { result ≡ position (λ b. b == 10) rest.now }
+{
+    rest.iter().position(|b| *b == b'\n')
 }

@@ -1,36 +1,13 @@
-use Rattle.std.proofs.Common.{◌≡◌, ◌<◌, List, map, length, sym, ap, ◌∙◌, arith, ltb-false, ltb-true}
-use Rattle.std.proofs.ByRecursion.{All-get_or}
-use Rattle.table.specs.declared.place.Place.{Place}
-use Rattle.table.specs.Table.{part, Within, head_of}
-use Rattle.table.proofs.Places.{nowhere}
-use Rattle.table.proofs.Shapes.{head_shape, two_of}
+use Rattle.std.proofs.Common.{◌≡◌, length, Err, arith}
+use Rattle.std.proofs.lemmas.Result.{err_from_is_err_and}
+use Rattle.table.specs.Table.{states_at}
+use Rattle.table.proofs.Shapes.{field, head_at}
 use Rattle.table.proofs.head.head_of.Goals as goal
 
-pub returns-in_default : goal.returns-in_default
-returns-in_default c =
-    let h : length c.args.rest.now ≡ 2 → ⊥ = λ e. omega (arith, ltb-true, ltb-false) in
-    sym (head_shape c.args.line (part c.args.text.now) c.args.rest.now h)
-
-pub returns-in_default-2 : goal.returns-in_default-2
-returns-in_default-2 c =
-    let h : length c.args.rest.now ≡ 2 → ⊥ = λ e. omega (arith, ltb-true, ltb-false) in
-    sym (head_shape c.args.line (part c.args.text.now) c.args.rest.now h)
-
-pub bytes_at-requires : goal.bytes_at-requires
-bytes_at-requires c =
-    let h : 0 < length c.args.rest.now = omega (arith, ltb-true, ltb-false) in
-    All-get_or (Within c.args.text.now) c.args.rest.now 0 nowhere h c.requires
-
-pub bytes_at-requires-2 : goal.bytes_at-requires-2
-bytes_at-requires-2 c =
-    let h : 1 < length c.args.rest.now = omega (arith, ltb-true, ltb-false) in
-    All-get_or (Within c.args.text.now) c.args.rest.now 1 nowhere h c.requires
-
-pub returns : goal.returns
-returns c =
-    let h : length c.args.rest.now ≡ 2 = omega (arith, ltb-true, ltb-false) in
-    let e = ap (λ (xs : List Place). head_of c.args.line (map (part c.args.text.now) xs)) (two_of c.args.rest.now nowhere h) in
-    let a = c.bytes_at.ensures in
-    let b = c.bytes_at-2.ensures in
-    let r = c.head_by.ensures in
-    r ∙ simp (a, b) (sym e)
+pub returns-in_err-states : goal.returns-in_err-states
+returns-in_err-states c =
+    let p = err_from_is_err_and c.from_residual.result c.from_residual.ensures.1 in
+    let k = c.states.ensures c.new.ensures.number in
+    let v : states_at c.args.line (field c.args.rest.now 0) ≡ Err c.in_err-states.field-0.0 = cc (c.in_err-states.was) in
+    let n : length c.args.rest.now ≡ 2 = omega arith in
+    rw (p.1, p.2, head_at c.args.line c.args.rest.now n, v)

@@ -1,48 +1,30 @@
-use Rattle.std.proofs.Common.{◌≡◌, ◌<◌, List, map, length, sym, ap, ◌∙◌, arith, ltb-false, ltb-true}
-use Rattle.std.proofs.ByRecursion.{All-get_or}
-use Rattle.table.specs.declared.place.Place.{Place}
-use Rattle.table.specs.Table.{part, Within, move_of}
-use Rattle.table.proofs.Places.{nowhere}
-use Rattle.table.proofs.Shapes.{move_shape, four_of}
+use Rattle.std.proofs.Common.{◌≡◌, length, Ok, Err, arith}
+use Rattle.std.proofs.lemmas.Result.{err_from_is_err_and}
+use Rattle.table.specs.Table.{number_at, way_at, label_at}
+use Rattle.table.proofs.Shapes.{field, move_at}
 use Rattle.table.proofs.moves.move_of.Goals as goal
 
-pub returns-in_default : goal.returns-in_default
-returns-in_default c =
-    let h : length c.args.rest.now ≡ 4 → ⊥ = λ e. omega (arith, ltb-true, ltb-false) in
-    sym (move_shape c.args.states c.args.line (part c.args.text.now) c.args.rest.now h)
+pub returns-in_err-from : goal.returns-in_err-from
+returns-in_err-from c =
+    let p = err_from_is_err_and c.from_residual.result c.from_residual.ensures.1 in
+    let f : number_at c.args.states c.args.line 2 (field c.args.rest.now 0) ≡ Err c.in_err-from.field-0.0 = cc (c.in_err-from.was) in
+    let n : length c.args.rest.now ≡ 4 = omega arith in
+    rw (p.1, p.2, move_at c.args.states c.args.line c.args.rest.now n, f)
 
-pub returns-in_default-2 : goal.returns-in_default-2
-returns-in_default-2 c =
-    let h : length c.args.rest.now ≡ 4 → ⊥ = λ e. omega (arith, ltb-true, ltb-false) in
-    sym (move_shape c.args.states c.args.line (part c.args.text.now) c.args.rest.now h)
+pub returns-in_err-way : goal.returns-in_err-way
+returns-in_err-way c =
+    let p = err_from_is_err_and c.from_residual-in_err-way.result c.from_residual-in_err-way.ensures.1 in
+    let f : number_at c.args.states c.args.line 2 (field c.args.rest.now 0) ≡ Ok c.in_ok-from.from = cc (c.in_ok-from.was) in
+    let w : way_at c.args.line (field c.args.rest.now 1) ≡ Err c.in_err-way.field-0.0 = cc (c.in_err-way.was) in
+    let n : length c.args.rest.now ≡ 4 = omega arith in
+    rw (p.1, p.2, move_at c.args.states c.args.line c.args.rest.now n, f, w)
 
-pub bytes_at-requires : goal.bytes_at-requires
-bytes_at-requires c =
-    let h : 0 < length c.args.rest.now = omega (arith, ltb-true, ltb-false) in
-    All-get_or (Within c.args.text.now) c.args.rest.now 0 nowhere h c.requires
-
-pub bytes_at-requires-2 : goal.bytes_at-requires-2
-bytes_at-requires-2 c =
-    let h : 1 < length c.args.rest.now = omega (arith, ltb-true, ltb-false) in
-    All-get_or (Within c.args.text.now) c.args.rest.now 1 nowhere h c.requires
-
-pub bytes_at-requires-3 : goal.bytes_at-requires-3
-bytes_at-requires-3 c =
-    let h : 2 < length c.args.rest.now = omega (arith, ltb-true, ltb-false) in
-    All-get_or (Within c.args.text.now) c.args.rest.now 2 nowhere h c.requires
-
-pub bytes_at-requires-4 : goal.bytes_at-requires-4
-bytes_at-requires-4 c =
-    let h : 3 < length c.args.rest.now = omega (arith, ltb-true, ltb-false) in
-    All-get_or (Within c.args.text.now) c.args.rest.now 3 nowhere h c.requires
-
-pub returns : goal.returns
-returns c =
-    let h : length c.args.rest.now ≡ 4 = omega (arith, ltb-true, ltb-false) in
-    let e = ap (λ (xs : List Place). move_of c.args.states c.args.line (map (part c.args.text.now) xs)) (four_of c.args.rest.now nowhere h) in
-    let a = c.bytes_at.ensures in
-    let b = c.bytes_at-2.ensures in
-    let d = c.bytes_at-3.ensures in
-    let f = c.bytes_at-4.ensures in
-    let r = c.move_by.ensures in
-    r ∙ simp (a, b, d, f) (sym e)
+pub returns-in_err-label : goal.returns-in_err-label
+returns-in_err-label c =
+    let p = err_from_is_err_and c.from_residual-in_err-label.result c.from_residual-in_err-label.ensures.1 in
+    let k = c.label.ensures c.new-3.ensures.number in
+    let f : number_at c.args.states c.args.line 2 (field c.args.rest.now 0) ≡ Ok c.in_ok-from.from = cc (c.in_ok-from.was) in
+    let w : way_at c.args.line (field c.args.rest.now 1) ≡ Ok c.in_ok-way.way = cc (c.in_ok-way.was) in
+    let l : label_at c.args.line c.in_ok-way.way (field c.args.rest.now 2) ≡ Err c.in_err-label.field-0.0 = cc (c.in_err-label.was) in
+    let n : length c.args.rest.now ≡ 4 = omega arith in
+    rw (p.1, p.2, move_at c.args.states c.args.line c.args.rest.now n, f, w, l)

@@ -1,33 +1,29 @@
-use Rattle.std.proofs.Common.{◌+◌, ◌<◌, length, Some, sym, refl, ap, ◌∙◌, arith}
-use Rattle.std.proofs.lemmas.List.{length-take, length-drop}
-use Rattle.table.specs.Text.{cut}
-use Rattle.table.specs.Lines.{left, behind_first}
-use Rattle.table.proofs.Turns.{tells_on, tells_end, hands_out, hands_out_open}
+use Rattle.std.proofs.Common.{Some, sym, refl, ap, ◌∙◌, arith}
+use Rattle.table.proofs.Turns.{line_ends, line_open}
 use Rattle.table.proofs.reader.Reader.next.Goals as goal
 
-pub returns-then-end-text : goal.returns-then-end-text
-returns-then-end-text c =
+pub returns-in_default-clause-value : goal.returns-in_default-clause-value
+returns-in_default-clause-value c =
     let r = c.args.self.now in
-    let t = r.text.now in
-    let e = tells_end 10 r.at c.until-end.result (length t) t c.if-end-text.true c.until-end.ensures.pieces in
-    let some : 0 < length (cut t r.at (length t)) = simp (length-take, length-drop) (omega arith) in
-    record { value = sym (hands_out_open r.stage r.line (left r) (cut t r.at (length t)) e some); onward = record { text = refl; stage = refl; line = refl; at = refl } }
+    sym (line_open r.stage r.line r.at r.text.now (sym c.end_of_line.ensures ∙ c.in_default.is) (sym c.is_empty.ensures ∙ c.if-is_empty.false))
 
-pub returns-in-Err : goal.returns-in-Err
-returns-in-Err c =
+pub returns-in-Ok-clause-value : goal.returns-in-Ok-clause-value
+returns-in-Ok-clause-value c =
     let r = c.args.self.now in
-    let t = r.text.now in
-    let e = tells_on 10 r.at c.until-end.result (length t) t (omega arith) c.until-end.ensures.pieces in
-    let v = hands_out r.stage r.line (left r) (cut t r.at c.until-end.result) (cut t (c.until-end.result + 1) (length t)) e in
-    record { value = ap Some (sym c.in-Err.is ∙ c.read_line.ensures) ∙ sym v; onward = record { text = refl; stage = refl; line = refl; at = refl } }
+    ap Some (sym c.in-Ok.is ∙ c.read_line-read.ensures) ∙ sym (line_ends r.stage r.line r.at c.in-Some.end r.text.now (sym c.end_of_line.ensures ∙ c.in-Some.is)).0
 
-pub returns : goal.returns
-returns c =
+pub returns-in-Ok-clause-onward : goal.returns-in-Ok-clause-onward
+returns-in-Ok-clause-onward c =
     let r = c.args.self.now in
-    let t = r.text.now in
-    let e = tells_on 10 r.at c.until-end.result (length t) t (omega arith) c.until-end.ensures.pieces in
-    let v = hands_out r.stage r.line (left r) (cut t r.at c.until-end.result) (cut t (c.until-end.result + 1) (length t)) e in
     record {
-      value = ap Some (sym c.in-Ok.is ∙ c.read_line.ensures) ∙ sym v;
-      onward = record { text = refl; stage = c.after-self.ensures; line = refl; further = omega arith; left = sym (ap behind_first e) };
+      text = refl;
+      stage = c.after-self.ensures;
+      line = refl;
+      further = omega arith;
+      left = (line_ends r.stage r.line r.at c.in-Some.end r.text.now (sym c.end_of_line.ensures ∙ c.in-Some.is)).1;
     }
+
+pub returns-in_default-read-clause-value : goal.returns-in_default-read-clause-value
+returns-in_default-read-clause-value c =
+    let r = c.args.self.now in
+    ap Some c.read_line-read.ensures ∙ sym (line_ends r.stage r.line r.at c.in-Some.end r.text.now (sym c.end_of_line.ensures ∙ c.in-Some.is)).0
