@@ -12,11 +12,11 @@ use Rattle.table.specs.Text.{figure_below}
 use Rattle.table.specs.Table.{and_then, number_at, states_at, way_of, way_in, way_at, label_at, move_of, head_of, kind_of, if_table, if_move, head_line, move_line}
 use Rattle.table.specs.Write.{way_text, name_text, move_fields, head_fields, WellFormedMove}
 use Rattle.table.proofs.Figures.{figure_some, figure_from}
-use Rattle.table.proofs.Results.{no_err, then_ok, or_fault_ok}
+use Rattle.table.proofs.Results.{no_err, then_ok, ok_or_ok}
 
 -- a number that is read lies below the limit, and its field is its decimal
 pub number_ok : (limit k f n : ℕ) (s : List ℕ) → 0 < limit → limit ≤ 256 → number_at limit k f s ≡ Ok n → (n < limit) × (s ≡ decimal n)
-number_ok limit k f n s z l h = figure_some limit n s z l (or_fault_ok (figure_below limit s) (Fault.Figure k f) n h)
+number_ok limit k f n s z l h = figure_some limit n s z l (ok_or_ok (figure_below limit s) (Fault.Figure k f) n h)
 
 -- the decimal of a number below the limit is read
 pub number_from : (limit k f n : ℕ) → limit ≤ 256 → n < limit → number_at limit k f (decimal n) ≡ Ok n
@@ -182,7 +182,7 @@ move_of_ok n k (from ∷ way ∷ name ∷ to ∷ []) x z l h =
     let last : ◌≡◌ {A = Result Move Fault} (Ok y) (Ok x) = q.2 in
     let e : y ≡ x = cc in
     let pn = number_ok n k 2 p.0 from z l p.1 in
-    let ws = way_in_ok way w.0 (or_fault_ok (way_in way) (Fault.Way k) w.0 w.1) in
+    let ws = way_in_ok way w.0 (ok_or_ok (way_in way) (Fault.Way k) w.0 w.1) in
     let bs = label_ok k b.0 w.0 name b.1 in
     let qn = number_ok n k 5 q.0 to z l q.1 in
     let e1 : from ≡ decimal p.0 = pn.1 in

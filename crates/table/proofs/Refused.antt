@@ -9,7 +9,7 @@ use Rattle.table.specs.declared.line.Kind.{Kind}
 use Rattle.table.specs.Text.{figure_below}
 use Rattle.table.specs.Table.{and_then, number_at, states_at, way_in, way_at, label_at, move_of, head_of, kind_of, if_table, if_move, head_line, move_line}
 use Rattle.table.specs.Faults.{nth_field, IsFigure, IsStates, IsWay, IsName, Shaped, MoveFault, HeadFault}
-use Rattle.table.proofs.Results.{no_err, no_ok, same_fault, then_ok, then_err, fault_is, or_fault_ok, or_fault_err, refused_as}
+use Rattle.table.proofs.Results.{no_err, no_ok, same_fault, then_ok, then_err, fault_is, ok_or_ok, ok_or_err, refused_as}
 use Rattle.table.proofs.Shapes.{three_of, five_of}
 use Rattle.table.proofs.Fields.{way_bytes, way_in_ok, number_ok, number_from, states_ok, states_from, move_ok, head_ok, kind_move, kind_table, after_from, after_way, after_label}
 
@@ -19,7 +19,7 @@ number_read limit k i s l p = ap (number_at limit k i) p.2 ∙ number_from limit
 
 -- a number is refused in one way only
 number_fault : (limit k i : ℕ) (s : List ℕ) (f : Fault) → number_at limit k i s ≡ Err f → f ≡ Fault.Figure k i
-number_fault limit k i s f h = or_fault_err (figure_below limit s) (Fault.Figure k i) f h
+number_fault limit k i s f h = ok_or_err (figure_below limit s) (Fault.Figure k i) f h
 
 -- what is refused is no figure
 no_figure : (limit k i : ℕ) (s : List ℕ) (f : Fault) → limit ≤ 256 → number_at limit k i s ≡ Err f → IsFigure limit s → ⊥
@@ -65,11 +65,11 @@ way_read k s (inr (inr e)) = (Silent, e, ap (way_at k) e)
 
 -- what is read is a way
 way_ok : (k : ℕ) (s : List ℕ) (w : Way) → way_at k s ≡ Ok w → s ≡ way_bytes w
-way_ok k s w h = way_in_ok s w (or_fault_ok (way_in s) (Fault.Way k) w h)
+way_ok k s w h = way_in_ok s w (ok_or_ok (way_in s) (Fault.Way k) w h)
 
 -- a way is refused in one way only
 way_fault : (k : ℕ) (s : List ℕ) (f : Fault) → way_at k s ≡ Err f → f ≡ Fault.Way k
-way_fault k s f h = or_fault_err (way_in s) (Fault.Way k) f h
+way_fault k s f h = ok_or_err (way_in s) (Fault.Way k) f h
 
 -- what is refused is no way
 no_way : (k : ℕ) (s : List ℕ) (f : Fault) → way_at k s ≡ Err f → IsWay s → ⊥

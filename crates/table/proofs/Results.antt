@@ -1,6 +1,7 @@
 use Rattle.std.proofs.Common.{◌≡◌, ℕ, ◌⊎◌, Some, None, Ok, Err, Option, Result, sym, refl, ap, inl, inr, arith}
 use Rattle.table.specs.declared.fault.Fault.{Fault}
-use Rattle.table.specs.Table.{and_then, or_fault}
+use Rattle.std.specs.Option.{ok_or}
+use Rattle.table.specs.Table.{and_then}
 
 -- a refusal is no reading
 pub no_err : {A B : Type 0} (f : Fault) (a : A) → ◌≡◌ {A = Result A Fault} (Err f) (Ok a) → B
@@ -38,14 +39,14 @@ fault_is g (Ok x) f h = no_ok f (g x) h
 fault_is {B = B} g (Err e) f h = ap Err (same_fault {A = B} e f h)
 
 -- what was read was there
-pub or_fault_ok : {A : Type 0} (o : Option A) (f : Fault) (a : A) → or_fault o f ≡ Ok a → o ≡ Some a
-or_fault_ok (Some x) f a h = let e : x ≡ a = cc in ap Some e
-or_fault_ok None f a h = no_err f a h
+pub ok_or_ok : {A : Type 0} (o : Option A) (f : Fault) (a : A) → ok_or o f ≡ Ok a → o ≡ Some a
+ok_or_ok (Some x) f a h = let e : x ≡ a = cc in ap Some e
+ok_or_ok None f a h = no_err f a h
 
 -- what was not there is refused with the fault given
-pub or_fault_err : {A : Type 0} (o : Option A) (e f : Fault) → or_fault o e ≡ Err f → f ≡ e
-or_fault_err (Some x) e f h = no_ok f x h
-or_fault_err {A} None e f h = sym (same_fault {A = A} e f h)
+pub ok_or_err : {A : Type 0} (o : Option A) (e f : Fault) → ok_or o e ≡ Err f → f ≡ e
+ok_or_err (Some x) e f h = no_ok f x h
+ok_or_err {A} None e f h = sym (same_fault {A = A} e f h)
 
 -- what cannot be read, and is refused in one way only, is refused in that way
 pub refused_as : {A : Type 0} (r : Result A Fault) (f : Fault) → ((a : A) → r ≡ Ok a → ⊥) → ((g : Fault) → r ≡ Err g → g ≡ f) → r ≡ Err f

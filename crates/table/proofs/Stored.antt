@@ -26,22 +26,14 @@ onto_moves x (Ok t) h = (refl, refl)
 onto_moves x (Err f) h = let z : ◌≡◌ {A = ℕ} 0 1 = cc in absurd (omega arith)
 
 -- a move to come has its place, and storing it there goes on
-module _ (all was ms : List Move) (many : ℕ) (x : Move) (r : Result Listing Fault) (had : Storing all was ms many (onto x r)) (fits : length all ≤ length ms) where
+module _ (all was ms : List Move) (many : ℕ) (x : Move) (r : Result Listing Fault) (had : Storing all was ms many (onto x r)) (room : many < length ms) where
   -- what is stored, the move and what comes after it are all
   whole : take many ms ++ x ∷ moves_of r ≡ all
   whole = ap (λ (ys : List Move). take many ms ++ ys) (sym (onto_moves x r had.0).1) ∙ had.3
 
-  -- so the move has its place
-  pub store_room : many < length ms
-  store_room =
-      let n = sym (length-append (take many ms) (x ∷ moves_of r)) ∙ ap length whole in
-      let t = length-take-le many ms had.1 in
-      omega arith
-
   -- and with it stored the rest is to come
   pub store_step : Storing all was (set ms many x) (many + 1) r
   store_step =
-      let room = store_room in
       let n = length-set ms many x in
       let same : drop (many + 1) (set ms many x) ≡ drop (many + 1) was = drop-set-lt (many + 1) ms many x (omega arith) ∙ sym (drop-drop 1 many ms) ∙ ap (drop 1) had.2 ∙ drop-drop 1 many was in
       let now : take (many + 1) (set ms many x) ++ moves_of r ≡ all = ap (λ (ys : List Move). ys ++ moves_of r) (take_more_set ms many x room) ∙ append_assoc (take many ms) (x ∷ []) (moves_of r) ∙ whole in

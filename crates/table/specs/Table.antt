@@ -1,4 +1,5 @@
 use Rattle.std.specs.Prelude.{ℕ, ◌+◌, Bool, true, false, cond, List, [], ◌∷◌, ◌++◌, length, drop, Some, None, Ok, Err, codes, Option, Result, ◌==◌, nat_lt}
+use Rattle.std.specs.Option.{ok_or}
 use Rattle.std.specs.Str.{bytes_eq}
 use Rattle.table.specs.declared.fault.Fault.{Fault}
 use Rattle.source.specs.declared.table.Move.{Move}
@@ -18,13 +19,9 @@ abbrev pub and_then : {A B : Type 0} → Result A Fault → (A → Result B Faul
 and_then (Ok a) f = f a
 and_then (Err e) f = Err e
 
-abbrev pub or_fault : {A : Type 0} → Option A → Fault → Result A Fault
-or_fault (Some a) f = Ok a
-or_fault None f = Err f
-
 -- the figure below a limit in field i of line k
 abbrev pub number_at : ℕ → ℕ → ℕ → List ℕ → Result ℕ Fault
-number_at limit k i s = or_fault (figure_below limit s) (Fault.Figure k i)
+number_at limit k i s = ok_or (figure_below limit s) (Fault.Figure k i)
 
 -- the number of states, from 1 to 255
 abbrev pub states_at : ℕ → List ℕ → Result ℕ Fault
@@ -40,7 +37,7 @@ way_in (b ∷ []) = way_of b
 way_in (b ∷ c ∷ cs) = None
 
 abbrev pub way_at : ℕ → List ℕ → Result Way Fault
-way_at k s = or_fault (way_in s) (Fault.Way k)
+way_at k s = ok_or (way_in s) (Fault.Way k)
 
 abbrev pub empty : List ℕ → Bool
 empty [] = true

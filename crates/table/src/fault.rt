@@ -33,6 +33,7 @@ impl Fault {
         }
     }
 
+    // The format tells 0 for no line and for no field, so these are no `Option`.
     /// The line of the fault, or 0 where it is in no line.
     pub fn line(&self) -> usize
         ensures { result ≡ line_of self.now }

@@ -15,7 +15,7 @@ pub enum Line {
     Step(Move),
 }
 
-// Not an `Option<Head>`: a table line before the first, and a move line after it, are told by name.
+// Not an `Option<Head>`: by the stage's name and the kind's it is told which line may stand where.
 /// Whether the first line stands behind, and what it said.
 #[derive(Clone, Copy)]
 pub(crate) enum Stage {
@@ -76,11 +76,9 @@ fn fields_of(line: &[u8]) -> ArrayVec<&[u8], MOST>
 fn kind_of(word: &[u8]) -> Kind
     ensures { result ≡ kind_of word.now }
 {
-    if word == b"table".as_slice() {
-        Kind::Table
-    } else if word == b"move".as_slice() {
-        Kind::Move
-    } else {
-        Kind::Other
+    match word {
+        b"table" => Kind::Table,
+        b"move" => Kind::Move,
+        _ => Kind::Other,
     }
 }

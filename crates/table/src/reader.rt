@@ -5,6 +5,7 @@ use crate::line::Stage;
 
 mod lines;
 
+// The whole text with a place in it, and not what is left of it: the place bounds the number of lines before it.
 /// Hands out the lines of a text one after another, up to the first fault.
 #[derive(Drop)]
 pub struct Reader<'a> {
