@@ -26,7 +26,7 @@ pieces_first b i xs h =
     (omega (arith, c.1, l), slice_split_first (λ x. eqb x b) xs 0 l ∙ ap (λ n. take n xs ∷ pieces b (drop (n + 1) xs)) c.1)
 
 -- a choice between some number and none that gives none
-pub cond_none : (t : Bool) (n : ℕ) → cond t (Some n) None ≡ None → t ≡ false
+cond_none : (t : Bool) (n : ℕ) → cond t (Some n) None ≡ None → t ≡ false
 cond_none true n h = absurd (none-some n (sym h))
 cond_none false n h = refl
 

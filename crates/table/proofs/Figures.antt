@@ -1,22 +1,12 @@
-use Rattle.std.proofs.Common.{◌≡◌, ℕ, ◌+◌, ◌-◌, ◌*◌, ◌^◌, ◌<◌, ◌≤◌, true, cond, not, ◌&&◌, eqb, ltb, List, [], ◌∷◌, ◌++◌, map, Bor, length, get_or, drop, Some, None, decimal, Option, sym, refl, ap, ◌∙◌, inl, inr, arith, rules}
+use Rattle.std.proofs.Common.{◌≡◌, ℕ, ◌+◌, ◌-◌, ◌*◌, ◌^◌, ◌<◌, ◌≤◌, true, cond, not, ◌&&◌, eqb, ltb, List, [], ◌∷◌, length, get_or, Some, None, decimal, Option, sym, refl, ap, ◌∙◌, inl, inr, arith, rules}
 use Rattle.std.specs.Char.{is_ascii_digit}
 use Rattle.std.specs.Str.{all_ascii_digits}
 use Rattle.std.proofs.lemmas.Bool.{and_parts, and_from, lt-ltb, le-ltb, ltb-true, cases_Bool, cases_lt, ne_eqb, eqb-false, not-true}
 use Rattle.std.proofs.lemmas.Str.Parse.{IsNumeralModel, numerals_by_fold}
 use Rattle.std.proofs.lemmas.Fmt.{decimal-digits_value, digits_decimal, digits_value-decimal, decimal_nonempty, first_decimal, decimal_digit}
-use Rattle.std.proofs.lemmas.Option.{cond_some, none-some}
-use Rattle.std.proofs.lemmas.List.{append-nil, at_drop_more, take-append-drop}
-use Rattle.std.proofs.lemmas.Iterator.{YieldsList-from_slice}
-use Rattle.std.proofs.lemmas.Iterator.Consumers.{YieldsList-so_far, YieldsList-turn, YieldsList-end}
-use Rattle.std.proofs.iter.Yields.{fronts}
-use Rattle.std.specs.Fn.{Called}
-use Rattle.table.proofs.Cuts.{cond_none, cond_some_of}
-use Rattle.std.specs.List.{FoldsTo}
-use Rattle.std.specs.Option.{MatchOption}
-use Rattle.std.specs.Iterator.{YieldsThen}
-use Rattle.std.specs.Slice.Iter.{iter_rest}
-use Rattle.std.specs.declared.slice.Iter.{Iter}
-use denote.Param.Members.{Mut}
+use Rattle.std.proofs.lemmas.Option.{none-some}
+use Rattle.table.proofs.Cuts.{cond_some_of}
+use Rattle.table.proofs.Folds.{folds}
 use Rattle.table.specs.Text.{figure_below, figure_on, no_leading_zero}
 
 -- the number that digits write, after a number so far
@@ -91,35 +81,18 @@ figure_from limit n l h =
 pub digits_of_decimal : (n : ℕ) → n < 256 → all_ascii_digits (decimal n) ≡ true
 digits_of_decimal n h = digits_decimal own n (omega arith)
 
--- the number with a digit more
-abbrev longer : ℕ → ℕ → Option ℕ
+-- the number with a digit more, where it stays small
+abbrev pub longer : ℕ → ℕ → Option ℕ
 longer n c = cond (is_ascii_digit c && ltb (n * 10 + (c - 48)) 256) (Some (n * 10 + (c - 48))) None
 
--- where it is no longer small, nothing is read
-no_longer : (n c : ℕ) (cs : List ℕ) → longer n c ≡ None → figure_on 256 n (c ∷ cs) ≡ None
-no_longer n c cs h =
-    let f = cond_none (is_ascii_digit c && ltb (n * 10 + (c - 48)) 256) (n * 10 + (c - 48)) h in
-    rw f
-
--- a fold over bytes that goes on while the number with a digit more is small
-module _ {F : Type 0} (g : Mut F (ℕ × (Bor ℕ × Unit {0})) (Option ℕ)) (one : (f : F) (n : ℕ) (x : Bor ℕ) (r : Option ℕ) (q : F) → Called g f (n, (x, tt)) r q → r ≡ longer n x.now) where
-  folds_on : (f q : F) (n m : ℕ) (xs : List (Bor ℕ)) (ys : List ℕ) → FoldsTo {P = F × ℕ} (λ p x j. (r : Option ℕ) × Called g p.0 (p.1, (x, tt)) r j.0 × (r ≡ Some j.1)) (f, n) xs (q, m) → figure_on 256 n (map (λ x. x.now) xs ++ ys) ≡ figure_on 256 m ys
-  folds_on f q n m [] ys h = ap (λ (p : F × ℕ). figure_on 256 p.1 ys) h
-  folds_on f q n m (x ∷ xs) ys (j, (r, k, e), h) =
-      let t = cond_some _ _ j.1 (sym (one f n x r j.0 k) ∙ e) in
-      rw (t.0, t.1) (folds_on j.0 q j.1 m xs ys h)
-
-  -- so it reads the digits of the bytes that an iterator gives
-  pub folded : (E : Type 0) (s u : Iter ℕ) (f q : F) (n m : ℕ) (bs : List ℕ) (xs : List (Bor ℕ)) (o : Option (Bor ℕ)) (r : Option ℕ) → iter_rest s ≡ bs → YieldsThen fronts s xs o u → FoldsTo {P = F × ℕ} (λ p x j. (v : Option ℕ) × Called g p.0 (p.1, (x, tt)) v j.0 × (v ≡ Some j.1)) (f, n) xs (q, m) → MatchOption o (r ≡ Some m) (λ x. (v : Option ℕ) × (h : F) × E × Called g q (m, (x, tt)) v h × (v ≡ None) × (r ≡ None)) → r ≡ figure_on 256 n bs
-  folded E s u f q n m bs xs None r e (t, y, st) h k =
-      let w = YieldsList-end (YieldsList-from_slice bs e) xs t y None u refl st in
-      k ∙ sym (folds_on f q n m xs [] h) ∙ ap (figure_on 256 n) (append-nil (map (λ x. x.now) xs) ∙ w.0)
-  folded E s u f q n m bs xs (Some x) r e (t, y, st) h (v, j, _, called, none, k) =
-      let w = YieldsList-turn (YieldsList-from_slice bs e) xs t y (Some x) u x refl st in
-      let past = YieldsList-so_far (YieldsList-from_slice bs e) xs t y in
-      let stop : figure_on 256 m (x.now ∷ drop (length xs + 1) bs) ≡ None = no_longer m x.now (drop (length xs + 1) bs) (sym (one q m x v j called) ∙ none) in
-      k ∙ sym stop ∙ ap (λ y. figure_on 256 m (y ∷ drop (length xs + 1) bs)) w.1 ∙ sym (at_drop_more (figure_on 256 m) bs (length xs) x.now w.0) ∙
-      sym (folds_on f q n m xs (drop (length xs) bs) h) ∙ ap (λ (ys : List ℕ). figure_on 256 n (ys ++ drop (length xs) bs)) past ∙ ap (figure_on 256 n) (take-append-drop (length xs) bs)
+-- a small figure is read by a fold over its digits
+pub figure_folds : (n : ℕ) (s : List ℕ) → folds longer n s ≡ figure_on 256 n s
+figure_folds n [] = refl
+figure_folds n (c ∷ cs) =
+    elim (cases_Bool (is_ascii_digit c && ltb (n * 10 + (c - 48)) 256)) [
+      | inl t ↦ rw t (figure_folds (n * 10 + (c - 48)) cs)
+      | inr f ↦ rw f refl
+    ]
 
 -- only below a limit above 0 is a figure read
 above_none : (limit n : ℕ) (s : List ℕ) → figure_below limit s ≡ Some n → 0 < limit

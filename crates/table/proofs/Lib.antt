@@ -1,5 +1,6 @@
 pub mod Results
 pub mod Cuts
+pub mod Folds
 pub mod Figures
 pub mod Commas
 pub mod Shapes

@@ -1,8 +1,10 @@
-use Rattle.std.proofs.Common.{rules}
-use Rattle.table.proofs.Figures.{folded}
+use Rattle.std.proofs.Common.{◌∙◌, rules}
+use Rattle.std.proofs.lemmas.Iterator.{YieldsList-from_slice}
+use Rattle.table.proofs.Folds.{folded}
+use Rattle.table.proofs.Figures.{longer, figure_folds}
 use Rattle.table.proofs.figure.digits.Goals as goal
 
 pub returns : goal.returns
 returns c =
     let r = c.try_fold.ensures.ran in
-    folded _ (λ f n x r q k. search rules) _ _ _ _ _ _ _ _ _ _ _ c.iter.ensures.rest r.4 r.5 r.6
+    folded _ (λ x. x.now) longer (λ f n x r q k. search rules) _ _ _ _ _ _ _ _ _ (YieldsList-from_slice c.args.s.now c.iter.ensures.rest) r.4 r.5 r.6 ∙ figure_folds 0 c.args.s.now
