@@ -1,43 +1,22 @@
 -- A set of names as one word: figures below 32 with commas between them, or - for none.
-use Rattle.std.specs.Prelude.{ℕ, ◌+◌, ◌-◌, ◌*◌, ◌^◌, Bool, false, cond, ◌&&◌, List, [], ◌∷◌, Some, None, Option, ◌==◌, bit_or, nat_lt}
-use Rattle.std.specs.Char.{is_ascii_digit}
-use Rattle.commands.specs.declared.names.Part.{Part}
+use Rattle.std.specs.Prelude.{ℕ, ◌^◌, Bool, false, cond, List, [], ◌∷◌, Some, Option, option_and_then, option_map, ◌==◌, bit_or}
+use Rattle.table.specs.Text.{pieces, figure_below}
 
 -- the set with one name more
 abbrev pub with_name : ℕ → ℕ → ℕ
 with_name names name = bit_or names (2 ^ name)
 
--- a digit begins a name
-abbrev pub begin : ℕ → ℕ → Option Part
-begin names byte = cond (is_ascii_digit byte) (Some (record { names = names; name = Some (byte - 48) })) None
+-- the set with the name that bytes write
+abbrev pub with_name_of : ℕ → List ℕ → Option ℕ
+with_name_of names bs = option_map (with_name names) (figure_below 32 bs)
 
--- a comma ends a name, and a digit goes on with it, unless it has a zero before it or gets too large
-abbrev pub go_on : ℕ → ℕ → ℕ → Option Part
-go_on names name byte =
-    cond (byte == 44) (Some (record { names = with_name names name; name = None }))
-    (cond (is_ascii_digit byte && (nat_lt 0 name && nat_lt (name * 10 + (byte - 48)) 32)) (Some (record { names = names; name = Some (name * 10 + (byte - 48)) })) None)
-
-abbrev pub next_by : ℕ → Option ℕ → ℕ → Option Part
-next_by names None byte = begin names byte
-next_by names (Some name) byte = go_on names name byte
-
--- what is read with one byte more
-abbrev pub next_part : Part → ℕ → Option Part
-next_part part byte = next_by part.names part.name byte
-
--- the last name has no comma after it
-abbrev pub end_by : ℕ → Option ℕ → Option ℕ
-end_by names None = None
-end_by names (Some name) = Some (with_name names name)
-
--- the rest of a word, after what is read
-abbrev pub names_on : Option Part → List ℕ → Option ℕ
-names_on None bs = None
-names_on (Some part) [] = end_by part.names part.name
-names_on (Some part) (b ∷ bs) = names_on (next_part part b) bs
+-- the set with the names that parts write, if each writes one
+abbrev pub with_names_of : ℕ → List (List ℕ) → Option ℕ
+with_names_of names [] = Some names
+with_names_of names (p ∷ ps) = option_and_then (λ more. with_names_of more ps) (with_name_of names p)
 
 abbrev pub list_names : List ℕ → Option ℕ
-list_names word = names_on (Some (record { names = 0; name = None })) word
+list_names word = with_names_of 0 (pieces 44 word)
 
 abbrev pub is_none : List ℕ → Bool
 is_none [] = false

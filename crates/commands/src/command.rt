@@ -4,42 +4,37 @@ ghost use Rattle.std.specs.Prelude.{IfSome};
 ghost use Rattle.commands.specs.Lines.{Helper, Makes, Says};
 
 use crate::names::names_of;
-use crate::words::{MOST, front_of};
-use labels::NameSet;
+use crate::words::words_of;
+use calls::Pile;
 use table::small_figure;
 
-#[derive(Clone, Copy)]
+#[derive(Clone, Copy, PartialEq, Eq, Debug)]
 pub enum Command<'a> {
     /// Read the table in this file, and keep it.
     Enter(&'a str),
     /// Put a table on a seat as its contract.
     Seat(u8, u8),
-    /// Fit a table at a seat, beside a helper if one is named, with names hidden.
-    Fit(u8, u8, Option<u8>, NameSet),
+    /// Fit a pile at a seat.
+    Fit(u8, Pile),
     /// Take away what is fitted at a seat.
     Unfit(u8),
     /// Empty a seat.
     Clear(u8),
 }
 
-#[derive(Clone, Copy)]
-pub enum Line<'a> {
-    Blank,
-    Call(Command<'a>),
-    Unclear,
-}
+/// A line that is no call.
+#[derive(Clone, Copy, PartialEq, Eq, Debug)]
+pub struct Unclear;
 
-/// The helper that a word names; `-` is none.
-fn helper_of(word: &str) -> Option<Option<u8>>
-    ensures { IfSome result (λ h. Helper word.now h) }
+/// The call that a line makes, or none if the line is blank. A call is its name and what it is given.
+pub fn parse(line: &str) -> Result<Option<Command<'_>>, Unclear>
+    ensures { Says line.now result }
 {
-    if word == "-" {
-        return Some(None);
+    let words = words_of(line);
+    if words.is_empty() {
+        return Ok(None);
     }
-    match small_figure(word.as_bytes()) {
-        Some(helper) => Some(Some(helper)),
-        None => None,
-    }
+    command_of(words.as_slice()).map(Some).ok_or(Unclear)
 }
 
 fn command_of<'a>(words: &[&'a str]) -> Option<Command<'a>>
@@ -53,9 +48,11 @@ fn command_of<'a>(words: &[&'a str]) -> Option<Command<'a>>
         )),
         ["fit", s, m, h, names] => Some(Command::Fit(
             small_figure(s.as_bytes())?,
-            small_figure(m.as_bytes())?,
-            helper_of(h)?,
-            names_of(names.as_bytes())?,
+            Pile {
+                table: small_figure(m.as_bytes())?,
+                helper: helper_of(h)?,
+                hidden: names_of(names.as_bytes())?,
+            },
         )),
         ["unfit", s] => Some(Command::Unfit(small_figure(s.as_bytes())?)),
         ["clear", s] => Some(Command::Clear(small_figure(s.as_bytes())?)),
@@ -63,19 +60,12 @@ fn command_of<'a>(words: &[&'a str]) -> Option<Command<'a>>
     }
 }
 
-/// Words are parted by white space; a call is its name and what it is given.
-pub fn parse<'a>(line: &'a str) -> Line<'a>
-    ensures { Says line.now result }
+/// The helper that a word names; `-` is none.
+fn helper_of(word: &str) -> Option<Option<u8>>
+    ensures { IfSome result (λ h. Helper word.now h) }
 {
-    let front = front_of(line);
-    if front.many == 0 {
-        return Line::Blank;
-    }
-    if front.many == MOST {
-        return Line::Unclear;
-    }
-    match command_of(&front.at[0..front.many]) {
-        Some(command) => Line::Call(command),
-        None => Line::Unclear,
+    match word {
+        "-" => Some(None),
+        _ => small_figure(word.as_bytes()).map(Some),
     }
 }

@@ -5,4 +5,4 @@ mod command;
 mod names;
 mod words;
 
-pub use command::{Command, Line, parse};
+pub use command::{Command, Unclear, parse};

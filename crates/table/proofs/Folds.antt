@@ -19,11 +19,11 @@ module _ {A B C F : Type 0} (g : Mut F (B × (A × Unit {0})) (Option B)) (v : A
   on f q b c [] ys k = ap (λ (p : F × B). folds h p.1 ys) k
   on f q b c (x ∷ xs) ys (j, (r, k, e), l) = let t : h b (v x) ≡ Some j.1 = sym (one f b x r j.0 k) ∙ e in rw t (on j.0 q j.1 c xs ys l)
 
-  pub folded : {S : Type 0} {steps : S → Option A → S → Type 0} {s : S} {all : List C} (E : Type 0) (u : S) (f q : F) (b c : B) (xs : List A) (o : Option A) (r : Option B) → YieldsList steps v s all → YieldsThen steps s xs o u → FoldsTo {P = F × B} (λ p x j. (w : Option B) × Called g p.0 (p.1, (x, tt)) w j.0 × (w ≡ Some j.1)) (f, b) xs (q, c) → MatchOption o (r ≡ Some c) (λ x. (w : Option B) × (k : F) × E × Called g q (c, (x, tt)) w k × (w ≡ None) × (r ≡ None)) → r ≡ folds h b all
-  folded E u f q b c xs None r y (t, ys, st) k e =
+  pub folded : {S : Type 0} {steps : S → Option A → S → Type 0} {s : S} {all : List C} (E : Type 0) (u : S) (f q : F) (b c : B) (xs : List A) (o : Option A) (r : Option B) → YieldsThen steps s xs o u → FoldsTo {P = F × B} (λ p x j. (w : Option B) × Called g p.0 (p.1, (x, tt)) w j.0 × (w ≡ Some j.1)) (f, b) xs (q, c) → MatchOption o (r ≡ Some c) (λ x. (w : Option B) × (k : F) × E × Called g q (c, (x, tt)) w k × (w ≡ None) × (r ≡ None)) → YieldsList steps v s all → r ≡ folds h b all
+  folded E u f q b c xs None r (t, ys, st) k e y =
       let w = YieldsList-end y xs t ys None u refl st in
       e ∙ sym (on f q b c xs [] k) ∙ ap (folds h b) (append-nil (map v xs) ∙ w.0)
-  folded {all = all} E u f q b c xs (Some x) r y (t, ys, st) k (w, j, _, called, none, e) =
+  folded {all = all} E u f q b c xs (Some x) r (t, ys, st) k (w, j, _, called, none, e) y =
       let n = YieldsList-turn y xs t ys (Some x) u x refl st in
       let past = YieldsList-so_far y xs t ys in
       let stop : h c (v x) ≡ None = sym (one q c x w j called) ∙ none in

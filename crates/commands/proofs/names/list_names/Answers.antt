@@ -1,27 +1,15 @@
-use Rattle.std.proofs.Common.{ℕ, ◌+◌, drop, Some, Option, sym, ap, ◌∙◌}
-use Rattle.std.proofs.lemmas.List.{at_drop_more, at_drop_all}
-use Rattle.commands.specs.declared.names.Part.{Part}
-use Rattle.commands.specs.Names.{names_on, end_by}
+use Rattle.std.proofs.Common.{◌==◌, ◌∙◌, rules}
+use Rattle.std.proofs.lemmas.Iterator.Splits.{YieldsList-from_slice_split}
+use Rattle.table.specs.Text.{pieces}
+use Rattle.table.proofs.Folds.{folded}
+use Rattle.commands.specs.Names.{with_name_of}
+use Rattle.commands.proofs.Listed.{names_fold}
 use Rattle.commands.proofs.names.list_names.Goals as goal
+use borrow.Author.Tests.{tests}
 
-pub returns-in_default : goal.returns-in_default
-returns-in_default c =
-    let e = at_drop_more (names_on (Some c.loop-byte.part)) c.args.word.now c.loop-byte.byte-index 0 c.loop-byte-test.true in
-    ap (λ (o : Option Part). names_on o (drop (c.loop-byte.byte-index + 1) c.args.word.now)) c.in_default.ensures.value ∙ sym e ∙ c.loop-byte.invariant.0
-
-pub loop-byte-preserved : goal.loop-byte-preserved
-loop-byte-preserved c =
-    let e = at_drop_more (names_on (Some c.loop-byte.part)) c.args.word.now c.loop-byte.byte-index 0 c.loop-byte-test.true in (
-      ap (λ (o : Option Part). names_on o (drop (c.loop-byte.byte-index + 1) c.args.word.now)) c.in-Some.ensures.value ∙ sym e ∙ c.loop-byte.invariant.0,
-      c.in-Some.ensures.below,
-    )
-
-pub returns-in-None : goal.returns-in-None
-returns-in-None c =
-    let e = at_drop_all (names_on (Some c.loop-byte.part)) c.args.word.now c.loop-byte.byte-index c.loop-byte-test.false in
-    ap (end_by c.loop-byte.part.names) (sym c.in-None.is) ∙ sym e ∙ c.loop-byte.invariant.0
-
-pub returns-in-Some-name : goal.returns-in-Some-name
-returns-in-Some-name c =
-    let e = at_drop_all (names_on (Some c.loop-byte.part)) c.args.word.now c.loop-byte.byte-index c.loop-byte-test.false in
-    ap (λ (n : ℕ). Some n) c.with_name.ensures ∙ ap (end_by c.loop-byte.part.names) (sym c.in-Some-name.is) ∙ sym e ∙ c.loop-byte.invariant.0
+pub returns : goal.returns
+returns c =
+    let r = c.try_fold.ensures.ran in
+    let s = c.split.ensures in
+    folded _ (λ x. x.now) with_name_of (λ f n x r q k. search rules) _ _ _ _ _ _ _ _ _ r.4 r.5 r.6 (YieldsList-from_slice_split _ (λ b. b == 44) c.args.word.now s.rest s.done s.closure (λ x b q k. search (rules, tests))) ∙
+    names_fold 0 (pieces 44 c.args.word.now)
