@@ -34,6 +34,7 @@ fn with_name_of(names: u32, bytes: &[u8]) -> Option<u32>
 }
 
 /// The name that the bytes write.
+#[tactic(auto, using(table::proofs::Figures::figure_kept))]
 fn name_of(bytes: &[u8]) -> Option<u8>
     ensures value { result ≡ figure_below 32 bytes.now }
     ensures below { IfSome result (λ n. n < 32) }

@@ -36,6 +36,7 @@ impl<'a> Field<'a> {
     }
 
     /// The figure below the limit.
+    #[tactic(auto, using(crate::proofs::Figures::figure_kept))]
     pub(crate) fn figure(self, limit: u8) -> Result<u8, Fault>
         ensures value { result ≡ number_at limit self.entry.line self.entry.number self.entry.bytes.now }
         ensures below { IfOk result (λ n. n < limit) }
