@@ -23,7 +23,7 @@ pub number_from : (limit k f n : ℕ) → limit ≤ 256 → n < limit → number
 number_from limit k f n l h = rw (figure_from limit n l h)
 
 -- the number of states that is read is from 1 to 255, and its field is its decimal
-pub states_ok : (k n : ℕ) (s : List ℕ) → states_at k s ≡ Ok n → (0 < n) × (n < 256) × (s ≡ decimal n)
+pub states_ok : (k n : ℕ) (s : List ℕ) → states_at k 2 s ≡ Ok n → (0 < n) × (n < 256) × (s ≡ decimal n)
 states_ok k n s h =
     let p = then_ok (number_at 256 k 2 s) (λ m. cond (eqb m 0) (Err (Fault.Figure k 2)) (Ok m)) n h in
     let q = number_ok 256 k 2 p.0 s (omega arith) (omega arith) p.1 in
@@ -38,7 +38,7 @@ states_ok k n s h =
     ]
 
 -- the decimal of such a number is read
-pub states_from : (k n : ℕ) → 0 < n → n < 256 → states_at k (decimal n) ≡ Ok n
+pub states_from : (k n : ℕ) → 0 < n → n < 256 → states_at k 2 (decimal n) ≡ Ok n
 states_from k n z l = rw (figure_from 256 n (omega arith) l, ne_eqb n 0 (omega arith))
 
 -- the byte of each way
@@ -80,7 +80,7 @@ text_send n h =
     (rw (a, b), rw (a, b, e))
 
 -- a label that is read has the texts that were read
-pub label_ok : (k l : ℕ) (w : Way) (s : List ℕ) → label_at k w s ≡ Ok l → (l ≤ 64) × (way_text l ≡ way_bytes w) × (name_text l ≡ s)
+pub label_ok : (k l : ℕ) (w : Way) (s : List ℕ) → label_at k 4 w s ≡ Ok l → (l ≤ 64) × (way_text l ≡ way_bytes w) × (name_text l ≡ s)
 label_ok k l Receive s h =
     let p = number_ok 32 k 4 l s (omega arith) (omega arith) h in
     let q = text_receive l p.0 in
@@ -96,10 +96,10 @@ label_ok k l Silent [] h = let i : 64 ≡ l = cc in (omega arith, ap way_text (s
 label_ok k l Silent (x ∷ s) h = no_err (Fault.SilentName k) l h
 
 -- the texts of a label are read as it
-pub label_from : (k l : ℕ) → l ≤ 64 → (w : Way) × (way_in (way_text l) ≡ Some w) × (label_at k w (name_text l) ≡ Ok l)
+pub label_from : (k l : ℕ) → l ≤ 64 → (w : Way) × (way_in (way_text l) ≡ Some w) × (label_at k 4 w (name_text l) ≡ Ok l)
 label_from k l h =
     elim (cases_lt l 32) [
-      | inl a ↦ let t = text_receive l a in (Receive, ap way_in t.0, ap (label_at k Receive) t.1 ∙ number_from 32 k 4 l (omega arith) a)
+      | inl a ↦ let t = text_receive l a in (Receive, ap way_in t.0, ap (label_at k 4 Receive) t.1 ∙ number_from 32 k 4 l (omega arith) a)
       | inr a ↦ elim (cases_lt l 64) [
         | inl b ↦
             let e : l - 32 + 32 ≡ l = omega arith in
@@ -107,9 +107,9 @@ label_from k l h =
             let t = text_send (l - 32) c in (
               Send,
               ap (λ n. way_in (way_text n)) (sym e) ∙ ap way_in t.0,
-              ap (λ n. label_at k Send (name_text n)) (sym e) ∙ ap (label_at k Send) t.1 ∙ ap (λ r. and_then r (λ n. Ok (n + 32))) (number_from 32 k 4 (l - 32) (omega arith) c) ∙ ap Ok e,
+              ap (λ n. label_at k 4 Send (name_text n)) (sym e) ∙ ap (label_at k 4 Send) t.1 ∙ ap (λ r. and_then r (λ n. Ok (n + 32))) (number_from 32 k 4 (l - 32) (omega arith) c) ∙ ap Ok e,
             )
-        | inr b ↦ let e : 64 ≡ l = omega arith in (Silent, ap (λ n. way_in (way_text n)) (sym e), ap (λ n. label_at k Silent (name_text n)) (sym e) ∙ ap Ok e)
+        | inr b ↦ let e : 64 ≡ l = omega arith in (Silent, ap (λ n. way_in (way_text n)) (sym e), ap (λ n. label_at k 4 Silent (name_text n)) (sym e) ∙ ap Ok e)
       ]
     ]
 
@@ -161,7 +161,7 @@ after_label n k to p l = and_then (number_at n k 5 to) (λ q. Ok (record { from 
 
 -- the same from the name on
 abbrev pub after_way : ℕ → ℕ → List ℕ → List ℕ → ℕ → Way → Result Move Fault
-after_way n k name to p w = and_then (label_at k w name) (λ l. after_label n k to p l)
+after_way n k name to p w = and_then (label_at k 4 w name) (λ l. after_label n k to p l)
 
 -- the same from the way on
 abbrev pub after_from : ℕ → ℕ → List ℕ → List ℕ → List ℕ → ℕ → Result Move Fault
@@ -176,7 +176,7 @@ move_of_ok n k (a ∷ b ∷ c ∷ []) x z l h = no_err (Fault.Misshapen k) x h
 move_of_ok n k (from ∷ way ∷ name ∷ to ∷ []) x z l h =
     let p = then_ok (number_at n k 2 from) (λ p. after_from n k way name to p) x h in
     let w = then_ok (way_at k way) (λ w. after_way n k name to p.0 w) x p.2 in
-    let b = then_ok (label_at k w.0 name) (λ l. after_label n k to p.0 l) x w.2 in
+    let b = then_ok (label_at k 4 w.0 name) (λ l. after_label n k to p.0 l) x w.2 in
     let q = then_ok (number_at n k 5 to) (λ q. Ok (record { from = p.0; label = b.0; to = q })) x b.2 in
     let y : Move = record { from = p.0; label = b.0; to = q.0 } in
     let last : ◌≡◌ {A = Result Move Fault} (Ok y) (Ok x) = q.2 in
@@ -214,7 +214,7 @@ head_ok k (w ∷ []) t h = no_err (Fault.Misshapen k) t (if_table_ok (kind_of w)
 head_ok k (w ∷ a ∷ []) t h = no_err (Fault.Misshapen k) t (if_table_ok (kind_of w) (head_of k (a ∷ [])) (Fault.Misshapen k) t h).1
 head_ok k (w ∷ a ∷ b ∷ []) t h =
     let o = if_table_ok (kind_of w) (head_of k (a ∷ b ∷ [])) (Fault.Misshapen k) t h in
-    let p = then_ok (states_at k a) (λ n. and_then (number_at n k 3 b) (λ s. Ok (record { states = n; start = s }))) t o.1 in
+    let p = then_ok (states_at k 2 a) (λ n. and_then (number_at n k 3 b) (λ s. Ok (record { states = n; start = s }))) t o.1 in
     let ps = states_ok k p.0 a p.1 in
     let q = then_ok (number_at p.0 k 3 b) (λ s. Ok (record { states = p.0; start = s })) t p.2 in
     let qs = number_ok p.0 k 3 q.0 b ps.0 (omega arith) q.1 in

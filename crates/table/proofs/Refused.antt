@@ -31,11 +31,11 @@ number_refused limit k i s z l never =
     refused_as (number_at limit k i s) (Fault.Figure k i) (λ n e. let p = number_ok limit k i n s z l e in never (n, p.0, p.1)) (number_fault limit k i s)
 
 -- the same for the number of states
-states_read : (k n : ℕ) (s : List ℕ) → IsStates n s → states_at k s ≡ Ok n
-states_read k n s p = ap (states_at k) p.2 ∙ states_from k n p.0 p.1
+states_read : (k n : ℕ) (s : List ℕ) → IsStates n s → states_at k 2 s ≡ Ok n
+states_read k n s p = ap (states_at k 2) p.2 ∙ states_from k n p.0 p.1
 
 -- the number of states is refused in one way only
-states_fault : (k : ℕ) (s : List ℕ) (f : Fault) → states_at k s ≡ Err f → f ≡ Fault.Figure k 2
+states_fault : (k : ℕ) (s : List ℕ) (f : Fault) → states_at k 2 s ≡ Err f → f ≡ Fault.Figure k 2
 states_fault k s f h =
     elim (then_err (number_at 256 k 2 s) (λ n. cond (eqb n 0) (Err (Fault.Figure k 2)) (Ok n)) f h) [
       | inl a ↦ number_fault 256 k 2 s f a
@@ -48,8 +48,8 @@ states_fault k s f h =
     ]
 
 -- what is no number of states is refused
-states_refused : (k : ℕ) (s : List ℕ) → ((n : ℕ) → IsStates n s → ⊥) → states_at k s ≡ Err (Fault.Figure k 2)
-states_refused k s never = refused_as (states_at k s) (Fault.Figure k 2) (λ n e. never n (states_ok k n s e)) (states_fault k s)
+states_refused : (k : ℕ) (s : List ℕ) → ((n : ℕ) → IsStates n s → ⊥) → states_at k 2 s ≡ Err (Fault.Figure k 2)
+states_refused k s never = refused_as (states_at k 2 s) (Fault.Figure k 2) (λ n e. never n (states_ok k n s e)) (states_fault k s)
 
 -- the same for the way
 is_way : (w : Way) (s : List ℕ) → s ≡ way_bytes w → IsWay s
@@ -93,7 +93,7 @@ abbrev NameFault : ℕ → List ℕ → List ℕ → Fault → Type 0
 NameFault k way s f = ((way ≡ codes "-" → ⊥) × (IsFigure 32 s → ⊥) × (f ≡ Fault.Figure k 4)) ⊎ ((way ≡ codes "-") × (s ≡ [] → ⊥) × (f ≡ Fault.SilentName k))
 
 -- what is refused is no name
-label_err : (k : ℕ) (w : Way) (way s : List ℕ) (f : Fault) → way ≡ way_bytes w → label_at k w s ≡ Err f → NameFault k way s f
+label_err : (k : ℕ) (w : Way) (way s : List ℕ) (f : Fault) → way ≡ way_bytes w → label_at k 4 w s ≡ Err f → NameFault k way s f
 label_err k Receive way s f e h = inl (not_silent 63 way e (λ d. omega arith), no_figure 32 k 4 s f (omega arith) h, number_fault 32 k 4 s f h)
 label_err k Send way s f e h =
     let g = fault_is (λ n. n + 32) (number_at 32 k 4 s) f h in
@@ -102,7 +102,7 @@ label_err k Silent way [] f e h = no_ok f 64 h
 label_err k Silent way (x ∷ s) f e h = inr (e, (λ d. let z : ◌≡◌ {A = ℕ} 0 1 = cc in omega arith), sym (same_fault {A = ℕ} (Fault.SilentName k) f h))
 
 -- what is read is a name
-label_named : (k l : ℕ) (w : Way) (way s : List ℕ) → way ≡ way_bytes w → label_at k w s ≡ Ok l → IsName way s
+label_named : (k l : ℕ) (w : Way) (way s : List ℕ) → way ≡ way_bytes w → label_at k 4 w s ≡ Ok l → IsName way s
 label_named k l Receive way s e h = let p = number_ok 32 k 4 l s (omega arith) (omega arith) h in inr (not_silent 63 way e (λ d. omega arith), (l, p.0, p.1))
 label_named k l Send way s e h =
     let q = then_ok (number_at 32 k 4 s) (λ n. Ok (n + 32)) l h in
@@ -116,22 +116,22 @@ abbrev sent : Result ℕ Fault → Result ℕ Fault
 sent r = and_then r (λ n. Ok (n + 32))
 
 -- a name is read
-label_read : (k : ℕ) (w : Way) (way s : List ℕ) → way ≡ way_bytes w → IsName way s → (l : ℕ) × (label_at k w s ≡ Ok l)
+label_read : (k : ℕ) (w : Way) (way s : List ℕ) → way ≡ way_bytes w → IsName way s → (l : ℕ) × (label_at k 4 w s ≡ Ok l)
 label_read k Receive way s e (inl p) = absurd (not_silent 63 way e (λ d. omega arith) p.0)
 label_read k Receive way s e (inr p) = (p.1.0, number_read 32 k 4 s (omega arith) p.1)
 label_read k Send way s e (inl p) = absurd (not_silent 33 way e (λ d. omega arith) p.0)
 label_read k Send way s e (inr p) = (p.1.0 + 32, ap sent (number_read 32 k 4 s (omega arith) p.1))
-label_read k Silent way s e (inl p) = (64, ap (label_at k Silent) p.1)
+label_read k Silent way s e (inl p) = (64, ap (label_at k 4 Silent) p.1)
 label_read k Silent way s e (inr p) = absurd (p.0 e)
 
 -- what is no figure is refused, where a name is wanted
-name_refused : (k : ℕ) (w : Way) (way s : List ℕ) → way ≡ way_bytes w → (way ≡ codes "-" → ⊥) → (IsFigure 32 s → ⊥) → label_at k w s ≡ Err (Fault.Figure k 4)
+name_refused : (k : ℕ) (w : Way) (way s : List ℕ) → way ≡ way_bytes w → (way ≡ codes "-" → ⊥) → (IsFigure 32 s → ⊥) → label_at k 4 w s ≡ Err (Fault.Figure k 4)
 name_refused k Receive way s e d never = number_refused 32 k 4 s (omega arith) (omega arith) never
 name_refused k Send way s e d never = ap sent (number_refused 32 k 4 s (omega arith) (omega arith) never)
 name_refused k Silent way s e d never = absurd (d e)
 
 -- any name is refused, where none is wanted
-silent_refused : (k : ℕ) (s : List ℕ) → (s ≡ [] → ⊥) → label_at k Silent s ≡ Err (Fault.SilentName k)
+silent_refused : (k : ℕ) (s : List ℕ) → (s ≡ [] → ⊥) → label_at k 4 Silent s ≡ Err (Fault.SilentName k)
 silent_refused k [] never = absurd (never refl)
 silent_refused k (x ∷ s) never = refl
 
@@ -163,7 +163,7 @@ move_of_err n k w (from ∷ way ∷ name ∷ to ∷ []) f e z l h =
             | inl a ↦ subst (MoveFault n k fs) (sym (way_fault k way f a)) (MoveFault.way sh g2 (no_way k way f a))
             | inr v ↦
                 let vs = way_ok k way v.0 v.1 in
-                elim (then_err (label_at k v.0 name) (λ b. after_label n k to p.0 b) f v.2) [
+                elim (then_err (label_at k 4 v.0 name) (λ b. after_label n k to p.0 b) f v.2) [
                   | inl a ↦ elim (label_err k v.0 way name f vs a) [
                     | inl q ↦ subst (MoveFault n k fs) (sym q.2) (MoveFault.name sh g2 (is_way v.0 way vs) q.0 q.1)
                     | inr q ↦ subst (MoveFault n k fs) (sym q.2) (MoveFault.silent sh g2 q.0 q.1)
@@ -199,7 +199,7 @@ head_of_err : (w : List ℕ) (gs : List (List ℕ)) (f : Fault) → w ≡ codes 
 head_of_err w [] f e h = subst (HeadFault (w ∷ [])) (same_fault {A = Head} (Fault.Misshapen 1) f h) (HeadFault.shape (λ s. omega (arith, s.1)))
 head_of_err w (a ∷ []) f e h = subst (HeadFault (w ∷ a ∷ [])) (same_fault {A = Head} (Fault.Misshapen 1) f h) (HeadFault.shape (λ s. omega (arith, s.1)))
 head_of_err w (a ∷ b ∷ []) f e h =
-    elim (then_err (states_at 1 a) (λ n. and_then (number_at n 1 3 b) (λ s. Ok (record { states = n; start = s }))) f h) [
+    elim (then_err (states_at 1 2 a) (λ n. and_then (number_at n 1 3 b) (λ s. Ok (record { states = n; start = s }))) f h) [
       | inl x ↦ subst (HeadFault (w ∷ a ∷ b ∷ [])) (sym (states_fault 1 a f x)) (HeadFault.states (e, refl) (λ n p. no_ok f n (sym (states_read 1 n a p) ∙ x)))
       | inr p ↦
           let ps = states_ok 1 p.0 a p.1 in

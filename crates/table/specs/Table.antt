@@ -23,9 +23,9 @@ and_then (Err e) f = Err e
 abbrev pub number_at : ℕ → ℕ → ℕ → List ℕ → Result ℕ Fault
 number_at limit k i s = ok_or (figure_below limit s) (Fault.Figure k i)
 
--- the number of states, from 1 to 255
-abbrev pub states_at : ℕ → List ℕ → Result ℕ Fault
-states_at k s = and_then (number_at 256 k 2 s) (λ n. cond (n == 0) (Err (Fault.Figure k 2)) (Ok n))
+-- the number of states in field i of line k, from 1 to 255
+abbrev pub states_at : ℕ → ℕ → List ℕ → Result ℕ Fault
+states_at k i s = and_then (number_at 256 k i s) (λ n. cond (n == 0) (Err (Fault.Figure k i)) (Ok n))
 
 -- the way that a byte stands for: ? ! or -
 abbrev pub way_of : ℕ → Option Way
@@ -43,11 +43,11 @@ abbrev pub empty : List ℕ → Bool
 empty [] = true
 empty (x ∷ xs) = false
 
--- the label that a way and a name make: k to receive k, k + 32 to send it, 64 to be silent
-abbrev pub label_at : ℕ → Way → List ℕ → Result ℕ Fault
-label_at k Receive s = number_at 32 k 4 s
-label_at k Send s = and_then (number_at 32 k 4 s) (λ n. Ok (n + 32))
-label_at k Silent s = cond (empty s) (Ok 64) (Err (Fault.SilentName k))
+-- the label that a way makes with the name in field i of line k: n to receive n, n + 32 to send it, 64 to be silent
+abbrev pub label_at : ℕ → ℕ → Way → List ℕ → Result ℕ Fault
+label_at k i Receive s = number_at 32 k i s
+label_at k i Send s = and_then (number_at 32 k i s) (λ n. Ok (n + 32))
+label_at k i Silent s = cond (empty s) (Ok 64) (Err (Fault.SilentName k))
 
 -- the fields after the first word of a move line, in a table of n states
 abbrev pub move_of : ℕ → ℕ → List (List ℕ) → Result Move Fault
@@ -56,14 +56,14 @@ move_of n k (a ∷ []) = Err (Fault.Misshapen k)
 move_of n k (a ∷ b ∷ []) = Err (Fault.Misshapen k)
 move_of n k (a ∷ b ∷ c ∷ []) = Err (Fault.Misshapen k)
 move_of n k (from ∷ way ∷ name ∷ to ∷ []) =
-    and_then (number_at n k 2 from) (λ p. and_then (way_at k way) (λ w. and_then (label_at k w name) (λ l. and_then (number_at n k 5 to) (λ q. Ok (record { from = p; label = l; to = q })))))
+    and_then (number_at n k 2 from) (λ p. and_then (way_at k way) (λ w. and_then (label_at k 4 w name) (λ l. and_then (number_at n k 5 to) (λ q. Ok (record { from = p; label = l; to = q })))))
 move_of n k (a ∷ b ∷ c ∷ d ∷ e ∷ es) = Err (Fault.Misshapen k)
 
 -- the fields after the first word of a table line
 abbrev pub head_of : ℕ → List (List ℕ) → Result Head Fault
 head_of k [] = Err (Fault.Misshapen k)
 head_of k (a ∷ []) = Err (Fault.Misshapen k)
-head_of k (states ∷ start ∷ []) = and_then (states_at k states) (λ n. and_then (number_at n k 3 start) (λ s. Ok (record { states = n; start = s })))
+head_of k (states ∷ start ∷ []) = and_then (states_at k 2 states) (λ n. and_then (number_at n k 3 start) (λ s. Ok (record { states = n; start = s })))
 head_of k (a ∷ b ∷ c ∷ cs) = Err (Fault.Misshapen k)
 
 -- the kind of a line, by its first word

@@ -48,7 +48,7 @@ impl<'a> Field<'a> {
 
     /// The number of states, of which a table has at least one.
     pub(crate) fn states(self) -> Result<u8, Fault>
-        ensures { self.entry.number ≡ 2 → result ≡ states_at self.entry.line self.entry.bytes.now }
+        ensures { result ≡ states_at self.entry.line self.entry.number self.entry.bytes.now }
     {
         small_figure(self.bytes)
             .filter(|n| *n > 0)
@@ -73,7 +73,7 @@ impl<'a> Field<'a> {
 
     /// The label that a way makes with this name.
     pub(crate) fn label(self, way: Way) -> Result<u8, Fault>
-        ensures { self.entry.number ≡ 4 → result ≡ label_at self.entry.line way self.entry.bytes.now }
+        ensures { result ≡ label_at self.entry.line self.entry.number way self.entry.bytes.now }
     {
         match way {
             Way::Receive => self.figure(NAMES),

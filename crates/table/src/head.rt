@@ -12,6 +12,7 @@ pub struct Head {
 }
 
 /// The fields after the kind, as the number of states and the start, which lies below it.
+#[tactic(auto, using(crate::proofs::Shapes::head_at))]
 pub(crate) fn head_of(rest: &[&[u8]], line: usize) -> Result<Head, Fault>
     ensures { result ≡ head_of line (map (λ f. f.now) rest.now) }
 {

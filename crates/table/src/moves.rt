@@ -6,6 +6,7 @@ use crate::field::Field;
 use source::table::Move;
 
 /// The fields after the kind, as a move of a table with so many states; the first fault is told.
+#[tactic(auto, using(crate::proofs::Shapes::move_at))]
 pub(crate) fn move_of(rest: &[&[u8]], states: u8, line: usize) -> Result<Move, Fault>
     ensures { result ≡ move_of states line (map (λ f. f.now) rest.now) }
 {
