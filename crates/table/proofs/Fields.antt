@@ -56,16 +56,16 @@ way_of_ok b w h =
         | inl t ↦ let e : ◌≡◌ {A = Option Way} (Some Send) (Some w) = rw (f, t) at h in let i : Send ≡ w = cc in rw (eqb-true b 33 t, ← i)
         | inr g ↦ elim (cases_Bool (eqb b 45)) [
           | inl t ↦ let e : ◌≡◌ {A = Option Way} (Some Silent) (Some w) = rw (f, g, t) at h in let i : Silent ≡ w = cc in rw (eqb-true b 45 t, ← i)
-          | inr i ↦ let e : ◌≡◌ {A = Option Way} None (Some w) = rw (f, g, i) at h in let z : ◌≡◌ {A = ℕ} 0 1 = cc in absurd (omega arith)
+          | inr i ↦ let e : ◌≡◌ {A = Option Way} None (Some w) = rw (f, g, i) at h in absurd (cc)
         ]
       ]
     ]
 
 -- a field that is read as a way is its byte
 pub way_in_ok : (s : List ℕ) (w : Way) → way_in s ≡ Some w → s ≡ way_bytes w
-way_in_ok [] w h = let z : ◌≡◌ {A = ℕ} 0 1 = cc in absurd (omega arith)
+way_in_ok [] w h = absurd (cc)
 way_in_ok (b ∷ []) w h = way_of_ok b w h
-way_in_ok (b ∷ c ∷ cs) w h = let z : ◌≡◌ {A = ℕ} 0 1 = cc in absurd (omega arith)
+way_in_ok (b ∷ c ∷ cs) w h = absurd (cc)
 
 -- the two texts of a label, in each of its ranges
 text_receive : (l : ℕ) → l < 32 → (way_text l ≡ codes "?") × (name_text l ≡ decimal l)
@@ -117,10 +117,10 @@ label_from k l h =
 pub kind_move : (w : List ℕ) → kind_of w ≡ Kind.Move → w ≡ codes "move"
 kind_move w h =
     elim (cases_Bool (bytes_eq w (codes "table"))) [
-      | inl t ↦ let e : Kind.Table ≡ Kind.Move = rw t at h in let z : ◌≡◌ {A = ℕ} 0 1 = cc in absurd (omega arith)
+      | inl t ↦ let e : Kind.Table ≡ Kind.Move = rw t at h in absurd (cc)
       | inr f ↦ elim (cases_Bool (bytes_eq w (codes "move"))) [
         | inl t ↦ (bytes_eq-Decides w (codes "move")).0 t
-        | inr g ↦ let e : Kind.Other ≡ Kind.Move = rw (f, g) at h in let z : ◌≡◌ {A = ℕ} 0 1 = cc in absurd (omega arith)
+        | inr g ↦ let e : Kind.Other ≡ Kind.Move = rw (f, g) at h in absurd (cc)
       ]
     ]
 
@@ -130,8 +130,8 @@ kind_table w h =
     elim (cases_Bool (bytes_eq w (codes "table"))) [
       | inl t ↦ (bytes_eq-Decides w (codes "table")).0 t
       | inr f ↦ elim (cases_Bool (bytes_eq w (codes "move"))) [
-        | inl t ↦ let e : Kind.Move ≡ Kind.Table = rw (f, t) at h in let z : ◌≡◌ {A = ℕ} 0 1 = cc in absurd (omega arith)
-        | inr g ↦ let e : Kind.Other ≡ Kind.Table = rw (f, g) at h in let z : ◌≡◌ {A = ℕ} 0 1 = cc in absurd (omega arith)
+        | inl t ↦ let e : Kind.Move ≡ Kind.Table = rw (f, t) at h in absurd (cc)
+        | inr g ↦ let e : Kind.Other ≡ Kind.Table = rw (f, g) at h in absurd (cc)
       ]
     ]
 

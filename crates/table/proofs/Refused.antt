@@ -99,7 +99,7 @@ label_err k Send way s f e h =
     let g = fault_is (λ n. n + 32) (number_at 32 k 4 s) f h in
     inl (not_silent 33 way e (λ d. omega arith), no_figure 32 k 4 s f (omega arith) g, number_fault 32 k 4 s f g)
 label_err k Silent way [] f e h = no_ok f 64 h
-label_err k Silent way (x ∷ s) f e h = inr (e, (λ d. let z : ◌≡◌ {A = ℕ} 0 1 = cc in omega arith), sym (same_fault {A = ℕ} (Fault.SilentName k) f h))
+label_err k Silent way (x ∷ s) f e h = inr (e, (λ d. cc), sym (same_fault {A = ℕ} (Fault.SilentName k) f h))
 
 -- what is read is a name
 label_named : (k l : ℕ) (w : Way) (way s : List ℕ) → way ≡ way_bytes w → label_at k 4 w s ≡ Ok l → IsName way s
@@ -137,22 +137,30 @@ silent_refused k (x ∷ s) never = refl
 
 -- a line of another kind is misshapen
 if_move_err : {A : Type 0} (w : Kind) (r : Result A Fault) (e f : Fault) → if_move w r (Err e) ≡ Err f → ((w ≡ Kind.Move → ⊥) × (e ≡ f)) ⊎ ((w ≡ Kind.Move) × (r ≡ Err f))
-if_move_err {A} Kind.Table r e f h = inl ((λ d. let z : ◌≡◌ {A = ℕ} 0 1 = cc in omega arith), same_fault {A = A} e f h)
+if_move_err {A} Kind.Table r e f h = inl ((λ d. cc), same_fault {A = A} e f h)
 if_move_err Kind.Move r e f h = inr (refl, h)
-if_move_err {A} Kind.Other r e f h = inl ((λ d. let z : ◌≡◌ {A = ℕ} 0 1 = cc in omega arith), same_fault {A = A} e f h)
+if_move_err {A} Kind.Other r e f h = inl ((λ d. cc), same_fault {A = A} e f h)
 
 -- the same for a first line
 if_table_err : {A : Type 0} (w : Kind) (r : Result A Fault) (e f : Fault) → if_table w r (Err e) ≡ Err f → ((w ≡ Kind.Table → ⊥) × (e ≡ f)) ⊎ ((w ≡ Kind.Table) × (r ≡ Err f))
 if_table_err Kind.Table r e f h = inr (refl, h)
-if_table_err {A} Kind.Move r e f h = inl ((λ d. let z : ◌≡◌ {A = ℕ} 0 1 = cc in omega arith), same_fault {A = A} e f h)
-if_table_err {A} Kind.Other r e f h = inl ((λ d. let z : ◌≡◌ {A = ℕ} 0 1 = cc in omega arith), same_fault {A = A} e f h)
+if_table_err {A} Kind.Move r e f h = inl ((λ d. cc), same_fault {A = A} e f h)
+if_table_err {A} Kind.Other r e f h = inl ((λ d. cc), same_fault {A = A} e f h)
+
+-- a line of other than five fields is no move line
+not_five : (n k : ℕ) (fs : List (List ℕ)) (f : Fault) → (length fs ≡ 5 → ⊥) → ◌≡◌ {A = Result Move Fault} (Err (Fault.Misshapen k)) (Err f) → MoveFault n k fs f
+not_five n k fs f q h = subst (MoveFault n k fs) (same_fault {A = Move} (Fault.Misshapen k) f h) (MoveFault.shape (λ s. q s.1))
+
+-- and one of other than three no first line
+not_three : (fs : List (List ℕ)) (f : Fault) → (length fs ≡ 3 → ⊥) → ◌≡◌ {A = Result Head Fault} (Err (Fault.Misshapen 1)) (Err f) → HeadFault fs f
+not_three fs f q h = subst (HeadFault fs) (same_fault {A = Head} (Fault.Misshapen 1) f h) (HeadFault.shape (λ s. q s.1))
 
 -- the fields after the word `move`: which of them is refused
 move_of_err : (n k : ℕ) (w : List ℕ) (gs : List (List ℕ)) (f : Fault) → w ≡ codes "move" → 0 < n → n ≤ 256 → move_of n k gs ≡ Err f → MoveFault n k (w ∷ gs) f
-move_of_err n k w [] f e z l h = subst (MoveFault n k (w ∷ [])) (same_fault {A = Move} (Fault.Misshapen k) f h) (MoveFault.shape (λ s. omega (arith, s.1)))
-move_of_err n k w (a ∷ []) f e z l h = subst (MoveFault n k (w ∷ a ∷ [])) (same_fault {A = Move} (Fault.Misshapen k) f h) (MoveFault.shape (λ s. omega (arith, s.1)))
-move_of_err n k w (a ∷ b ∷ []) f e z l h = subst (MoveFault n k (w ∷ a ∷ b ∷ [])) (same_fault {A = Move} (Fault.Misshapen k) f h) (MoveFault.shape (λ s. omega (arith, s.1)))
-move_of_err n k w (a ∷ b ∷ c ∷ []) f e z l h = subst (MoveFault n k (w ∷ a ∷ b ∷ c ∷ [])) (same_fault {A = Move} (Fault.Misshapen k) f h) (MoveFault.shape (λ s. omega (arith, s.1)))
+move_of_err n k w [] f e z l h = not_five n k (w ∷ []) f (λ q. omega arith) h
+move_of_err n k w (a ∷ []) f e z l h = not_five n k (w ∷ a ∷ []) f (λ q. omega arith) h
+move_of_err n k w (a ∷ b ∷ []) f e z l h = not_five n k (w ∷ a ∷ b ∷ []) f (λ q. omega arith) h
+move_of_err n k w (a ∷ b ∷ c ∷ []) f e z l h = not_five n k (w ∷ a ∷ b ∷ c ∷ []) f (λ q. omega arith) h
 move_of_err n k w (from ∷ way ∷ name ∷ to ∷ []) f e z l h =
     elim (then_err (number_at n k 2 from) (λ p. after_from n k way name to p) f h) [
       | inl a ↦ subst (MoveFault n k fs) (sym (number_fault n k 2 from f a)) (MoveFault.from sh (no_figure n k 2 from f l a))
@@ -183,11 +191,11 @@ move_of_err n k w (from ∷ way ∷ name ∷ to ∷ []) f e z l h =
 
     last : ℕ → ℕ → ℕ → Move
     last p b q = record { from = p; label = b; to = q }
-move_of_err n k w (a ∷ b ∷ c ∷ d ∷ g ∷ gs) f e z l h = subst (MoveFault n k (w ∷ a ∷ b ∷ c ∷ d ∷ g ∷ gs)) (same_fault {A = Move} (Fault.Misshapen k) f h) (MoveFault.shape (λ s. omega (arith, s.1)))
+move_of_err n k w (a ∷ b ∷ c ∷ d ∷ g ∷ gs) f e z l h = not_five n k (w ∷ a ∷ b ∷ c ∷ d ∷ g ∷ gs) f (λ q. omega arith) h
 
 -- a move line that is refused has the fault
 pub move_err : (n k : ℕ) (fs : List (List ℕ)) (f : Fault) → 0 < n → n ≤ 256 → move_line n k fs ≡ Err f → MoveFault n k fs f
-move_err n k [] f z l h = subst (MoveFault n k []) (same_fault {A = Move} (Fault.Misshapen k) f h) (MoveFault.shape (λ s. omega (arith, s.1)))
+move_err n k [] f z l h = not_five n k [] f (λ q. omega arith) h
 move_err n k (w ∷ gs) f z l h =
     elim (if_move_err (kind_of w) (move_of n k gs) (Fault.Misshapen k) f h) [
       | inl a ↦ subst (MoveFault n k (w ∷ gs)) a.1 (MoveFault.shape (λ s. a.0 (ap kind_of s.0)))
@@ -196,8 +204,8 @@ move_err n k (w ∷ gs) f z l h =
 
 -- the fields after the word `table`: which of them is refused
 head_of_err : (w : List ℕ) (gs : List (List ℕ)) (f : Fault) → w ≡ codes "table" → head_of 1 gs ≡ Err f → HeadFault (w ∷ gs) f
-head_of_err w [] f e h = subst (HeadFault (w ∷ [])) (same_fault {A = Head} (Fault.Misshapen 1) f h) (HeadFault.shape (λ s. omega (arith, s.1)))
-head_of_err w (a ∷ []) f e h = subst (HeadFault (w ∷ a ∷ [])) (same_fault {A = Head} (Fault.Misshapen 1) f h) (HeadFault.shape (λ s. omega (arith, s.1)))
+head_of_err w [] f e h = not_three (w ∷ []) f (λ q. omega arith) h
+head_of_err w (a ∷ []) f e h = not_three (w ∷ a ∷ []) f (λ q. omega arith) h
 head_of_err w (a ∷ b ∷ []) f e h =
     elim (then_err (states_at 1 2 a) (λ n. and_then (number_at n 1 3 b) (λ s. Ok (record { states = n; start = s }))) f h) [
       | inl x ↦ subst (HeadFault (w ∷ a ∷ b ∷ [])) (sym (states_fault 1 a f x)) (HeadFault.states (e, refl) (λ n p. no_ok f n (sym (states_read 1 n a p) ∙ x)))
@@ -209,11 +217,11 @@ head_of_err w (a ∷ b ∷ []) f e h =
   where
     head : ℕ → ℕ → Head
     head n s = record { states = n; start = s }
-head_of_err w (a ∷ b ∷ c ∷ cs) f e h = subst (HeadFault (w ∷ a ∷ b ∷ c ∷ cs)) (same_fault {A = Head} (Fault.Misshapen 1) f h) (HeadFault.shape (λ s. omega (arith, s.1)))
+head_of_err w (a ∷ b ∷ c ∷ cs) f e h = not_three (w ∷ a ∷ b ∷ c ∷ cs) f (λ q. omega arith) h
 
 -- a first line that is refused has the fault
 pub head_err : (fs : List (List ℕ)) (f : Fault) → head_line 1 fs ≡ Err f → HeadFault fs f
-head_err [] f h = subst (HeadFault []) (same_fault {A = Head} (Fault.Misshapen 1) f h) (HeadFault.shape (λ s. omega (arith, s.1)))
+head_err [] f h = not_three [] f (λ q. omega arith) h
 head_err (w ∷ gs) f h =
     elim (if_table_err (kind_of w) (head_of 1 gs) (Fault.Misshapen 1) f h) [
       | inl a ↦ subst (HeadFault (w ∷ gs)) a.1 (HeadFault.shape (λ s. a.0 (ap kind_of s.0)))

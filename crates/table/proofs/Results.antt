@@ -1,11 +1,11 @@
-use Rattle.std.proofs.Common.{◌≡◌, ℕ, ◌⊎◌, Some, None, Ok, Err, Option, Result, sym, refl, ap, inl, inr, arith}
+use Rattle.std.proofs.Common.{◌≡◌, ◌⊎◌, Some, None, Ok, Err, Option, Result, sym, refl, ap, inl, inr}
 use Rattle.table.specs.declared.fault.Fault.{Fault}
 use Rattle.std.specs.Option.{ok_or}
 use Rattle.table.specs.Table.{and_then}
 
 -- a refusal is no reading
 pub no_err : {A B : Type 0} (f : Fault) (a : A) → ◌≡◌ {A = Result A Fault} (Err f) (Ok a) → B
-no_err f a h = let z : ◌≡◌ {A = ℕ} 0 1 = cc in absurd (omega arith)
+no_err f a h = absurd (cc)
 
 -- the same the other way round
 pub no_ok : {A B : Type 0} (f : Fault) (a : A) → ◌≡◌ {A = Result A Fault} (Ok a) (Err f) → B
@@ -13,7 +13,7 @@ no_ok f a h = no_err f a (sym h)
 
 -- nothing is not something
 pub none_some : {A B : Type 0} (a : A) → ◌≡◌ {A = Option A} None (Some a) → B
-none_some a h = let z : ◌≡◌ {A = ℕ} 0 1 = cc in absurd (omega arith)
+none_some a h = absurd (cc)
 
 -- equal refusals have one fault
 pub same_fault : {A : Type 0} (e f : Fault) → ◌≡◌ {A = Result A Fault} (Err e) (Err f) → e ≡ f

@@ -59,7 +59,7 @@ head_six k (a ∷ b ∷ c ∷ cs) = refl
 -- a line of the move kind is read by the fields after its first
 pub move_line_by : (n k : ℕ) (fs : List (Bor (List ℕ))) (ps : List (List ℕ)) → map (λ f. f.now) fs ≡ take 6 ps → 0 < length fs → kind_of (field fs 0) ≡ Kind.Move → move_of n k (map (λ f. f.now) (drop 1 fs)) ≡ move_line n k ps
 move_line_by n k [] ps e l h = absurd (omega arith)
-move_line_by n k (x ∷ xs) [] e l h = let z : ◌≡◌ {A = ℕ} 0 1 = cc in absurd (omega arith)
+move_line_by n k (x ∷ xs) [] e l h = absurd (cc)
 move_line_by n k (x ∷ xs) (p ∷ ps) e l h =
     let a : x.now ≡ p = cc in
     let b : map (λ f. f.now) xs ≡ take 5 ps = cc in

@@ -12,7 +12,7 @@ use Rattle.table.proofs.Results.{no_err}
 pub sound_short : (text : List ℕ) → is_ok (read_text text) ≡ true → length text ≤ 40960
 sound_short text h =
     elim (cases_lt 40960 (length text)) [
-      | inl l ↦ let e : is_ok {T = Listing} {E = Fault} (Err Fault.TooLong) ≡ true = rw (lt-ltb 40960 (length text) l) at h in let z : ◌≡◌ {A = ℕ} 0 1 = cc in absurd (omega arith)
+      | inl l ↦ let e : is_ok {T = Listing} {E = Fault} (Err Fault.TooLong) ≡ true = rw (lt-ltb 40960 (length text) l) at h in absurd (cc)
       | inr l ↦ l
     ]
 
@@ -23,7 +23,7 @@ Storing all was ms many r = (is_ok r ≡ true) × (many ≤ length ms) × (drop 
 -- a move more to come stands first
 onto_moves : (x : Move) (r : Result Listing Fault) → is_ok (onto x r) ≡ true → (is_ok r ≡ true) × (moves_of (onto x r) ≡ x ∷ moves_of r)
 onto_moves x (Ok t) h = (refl, refl)
-onto_moves x (Err f) h = let z : ◌≡◌ {A = ℕ} 0 1 = cc in absurd (omega arith)
+onto_moves x (Err f) h = absurd (cc)
 
 -- a move to come has its place, and storing it there goes on
 module _ (all was ms : List Move) (many : ℕ) (x : Move) (r : Result Listing Fault) (had : Storing all was ms many (onto x r)) (room : many < length ms) where

@@ -65,12 +65,12 @@ step_is (Err f) m e = no_err f (Step m) e
 
 -- a first line is not read as a move
 no_step : {B : Type 0} (r : Result Head Fault) (m : Move) → and_then r (λ x. Ok (First x)) ≡ Ok (Step m) → B
-no_step (Ok x) m e = let z : ◌≡◌ {A = ℕ} 0 1 = cc in absurd (omega arith)
+no_step (Ok x) m e = absurd (cc)
 no_step (Err f) m e = no_err f (Step m) e
 
 -- nor a move as a first line
 no_first : {B : Type 0} (r : Result Move Fault) (h : Head) → and_then r (λ x. Ok (Step x)) ≡ Ok (First h) → B
-no_first (Ok x) h e = let z : ◌≡◌ {A = ℕ} 0 1 = cc in absurd (omega arith)
+no_first (Ok x) h e = absurd (cc)
 no_first (Err f) h e = no_err f (First h) e
 
 -- a move read in front of moves stands in front of them
