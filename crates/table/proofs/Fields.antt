@@ -1,6 +1,7 @@
-use Rattle.std.proofs.Common.{◌≡◌, ℕ, ◌+◌, ◌-◌, ◌<◌, ◌≤◌, cond, eqb, List, [], ◌∷◌, Some, None, Ok, Err, codes, decimal, Option, Result, sym, refl, ap, ◌∙◌, subst, inl, inr, arith}
+use Rattle.std.proofs.Common.{◌≡◌, ℕ, ◌+◌, ◌-◌, ◌<◌, ◌≤◌, cond, Bool, true, eqb, List, [], ◌∷◌, Some, None, Ok, Err, codes, decimal, Option, Result, sym, refl, ap, ◌∙◌, subst, inl, inr, arith}
 use Rattle.std.specs.Str.{bytes_eq}
 use Rattle.std.proofs.lemmas.Bool.{cases_Bool, cases_lt, eqb-true, lt-ltb, le-ltb, ne_eqb, eqb-false}
+use Rattle.std.proofs.lemmas.Bool.Decides.{nat_tests}
 use Rattle.std.proofs.lemmas.Slice.Eq.{bytes_eq-Decides}
 use Rattle.table.specs.declared.fault.Fault.{Fault}
 use Rattle.source.specs.declared.table.Move.{Move}
@@ -49,17 +50,7 @@ way_bytes Silent = codes "-"
 
 -- a byte that is read as a way is that of the way
 way_of_ok : (b : ℕ) (w : Way) → way_of b ≡ Some w → b ∷ [] ≡ way_bytes w
-way_of_ok b w h =
-    elim (cases_Bool (eqb b 63)) [
-      | inl t ↦ let e : ◌≡◌ {A = Option Way} (Some Receive) (Some w) = rw t at h in let i : Receive ≡ w = cc in rw (eqb-true b 63 t, ← i)
-      | inr f ↦ elim (cases_Bool (eqb b 33)) [
-        | inl t ↦ let e : ◌≡◌ {A = Option Way} (Some Send) (Some w) = rw (f, t) at h in let i : Send ≡ w = cc in rw (eqb-true b 33 t, ← i)
-        | inr g ↦ elim (cases_Bool (eqb b 45)) [
-          | inl t ↦ let e : ◌≡◌ {A = Option Way} (Some Silent) (Some w) = rw (f, g, t) at h in let i : Silent ≡ w = cc in rw (eqb-true b 45 t, ← i)
-          | inr i ↦ let e : ◌≡◌ {A = Option Way} None (Some w) = rw (f, g, i) at h in absurd (cc)
-        ]
-      ]
-    ]
+way_of_ok b w h = grind (arith, nat_tests)
 
 -- a field that is read as a way is its byte
 pub way_in_ok : (s : List ℕ) (w : Way) → way_in s ≡ Some w → s ≡ way_bytes w
@@ -69,15 +60,11 @@ way_in_ok (b ∷ c ∷ cs) w h = absurd (cc)
 
 -- the two texts of a label, in each of its ranges
 text_receive : (l : ℕ) → l < 32 → (way_text l ≡ codes "?") × (name_text l ≡ decimal l)
-text_receive l h = (rw (lt-ltb l 32 h), rw (lt-ltb l 32 h))
+text_receive l h = (grind (arith, nat_tests), grind (arith, nat_tests))
 
 -- the texts of a label of sending
 text_send : (n : ℕ) → n < 32 → (way_text (n + 32) ≡ codes "!") × (name_text (n + 32) ≡ decimal n)
-text_send n h =
-    let a = le-ltb (n + 32) 32 (omega arith) in
-    let b = lt-ltb (n + 32) 64 (omega arith) in
-    let e : n + 32 - 32 ≡ n = omega arith in
-    (rw (a, b), rw (a, b, e))
+text_send n h = (grind (arith, nat_tests), grind (arith, nat_tests))
 
 -- a label that is read has the texts that were read
 pub label_ok : (k l : ℕ) (w : Way) (s : List ℕ) → label_at k 4 w s ≡ Ok l → (l ≤ 64) × (way_text l ≡ way_bytes w) × (name_text l ≡ s)
@@ -115,25 +102,17 @@ label_from k l h =
 
 -- a line of the move kind begins with its word
 pub kind_move : (w : List ℕ) → kind_of w ≡ Kind.Move → w ≡ codes "move"
-kind_move w h =
-    elim (cases_Bool (bytes_eq w (codes "table"))) [
-      | inl t ↦ let e : Kind.Table ≡ Kind.Move = rw t at h in absurd (cc)
-      | inr f ↦ elim (cases_Bool (bytes_eq w (codes "move"))) [
-        | inl t ↦ (bytes_eq-Decides w (codes "move")).0 t
-        | inr g ↦ let e : Kind.Other ≡ Kind.Move = rw (f, g) at h in absurd (cc)
-      ]
-    ]
+kind_move w h = (bytes_eq-Decides w (codes "move")).0 (by_word (bytes_eq w (codes "table")) (bytes_eq w (codes "move")) h)
+  where
+    by_word : (s t : Bool) → cond s Kind.Table (cond t Kind.Move Kind.Other) ≡ Kind.Move → t ≡ true
+    by_word s t h = grind arith
 
 -- a line of the table kind begins with its word
 pub kind_table : (w : List ℕ) → kind_of w ≡ Kind.Table → w ≡ codes "table"
-kind_table w h =
-    elim (cases_Bool (bytes_eq w (codes "table"))) [
-      | inl t ↦ (bytes_eq-Decides w (codes "table")).0 t
-      | inr f ↦ elim (cases_Bool (bytes_eq w (codes "move"))) [
-        | inl t ↦ let e : Kind.Move ≡ Kind.Table = rw (f, t) at h in absurd (cc)
-        | inr g ↦ let e : Kind.Other ≡ Kind.Table = rw (f, g) at h in absurd (cc)
-      ]
-    ]
+kind_table w h = (bytes_eq-Decides w (codes "table")).0 (by_word (bytes_eq w (codes "table")) (bytes_eq w (codes "move")) h)
+  where
+    by_word : (s t : Bool) → cond s Kind.Table (cond t Kind.Move Kind.Other) ≡ Kind.Table → s ≡ true
+    by_word s t h = grind arith
 
 -- what is read only of a move line was read of one
 if_move_ok : {A : Type 0} (w : Kind) (r : Result A Fault) (f : Fault) (a : A) → if_move w r (Err f) ≡ Ok a → (w ≡ Kind.Move) × (r ≡ Ok a)
