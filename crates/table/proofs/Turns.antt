@@ -14,7 +14,6 @@ use Rattle.table.specs.Table.{and_then, line_says, head_line, move_line, moves_f
 use Rattle.table.specs.declared.reader.Reader.{Reader}
 use Rattle.table.specs.Lines.{left, first_of, next_line, move_in, behind_first, Behind, Onward}
 use Rattle.table.proofs.Cuts.{pieces_some, pieces_first, pieces_none}
-use Rattle.table.proofs.Results.{no_err, none_some, same_fault, same_some, fault_is}
 
 -- what is still to be read, before the first line or after it
 abbrev pub rest : Stage → ℕ → List (List ℕ) → Result Listing Fault
@@ -53,26 +52,6 @@ to_come r = rest r.stage r.line (left r)
 pub all_to_come : (r : Reader) (t : List ℕ) → r.text.now ≡ t → r.at ≡ 0 → r.line ≡ 1 → r.stage ≡ BeforeHead → length t ≤ 40960 → to_come r ≡ read_text t
 all_to_come r t et ea ek es h = rw (et, ea, ek, es) (sym (read_short t h))
 
--- what is read as a first line was one
-first_is : (r : Result Head Fault) (h : Head) → and_then r (λ x. Ok (First x)) ≡ Ok (First h) → r ≡ Ok h
-first_is (Ok x) h e = let i : x ≡ h = cc in ap Ok i
-first_is (Err f) h e = no_err f (First h) e
-
--- the same for a move
-step_is : (r : Result Move Fault) (m : Move) → and_then r (λ x. Ok (Step x)) ≡ Ok (Step m) → r ≡ Ok m
-step_is (Ok x) m e = let i : x ≡ m = cc in ap Ok i
-step_is (Err f) m e = no_err f (Step m) e
-
--- a first line is not read as a move
-no_step : {B : Type 0} (r : Result Head Fault) (m : Move) → and_then r (λ x. Ok (First x)) ≡ Ok (Step m) → B
-no_step (Ok x) m e = absurd (cc)
-no_step (Err f) m e = no_err f (Step m) e
-
--- nor a move as a first line
-no_first : {B : Type 0} (r : Result Move Fault) (h : Head) → and_then r (λ x. Ok (Step x)) ≡ Ok (First h) → B
-no_first (Ok x) h e = absurd (cc)
-no_first (Err f) h e = no_err f (First h) e
-
 -- a move read in front of moves stands in front of them
 onto_moves : (h : Head) (m : Move) (r : Result (List Move) Fault) → and_then {B = Listing} (and_then {B = List Move} r (λ xs. Ok (m ∷ xs))) (λ ms. Ok (with_moves h ms)) ≡ onto m (and_then {B = Listing} r (λ ms. Ok (with_moves h ms)))
 onto_moves h m (Ok ms) = refl
@@ -98,76 +77,52 @@ line_open s k at t h some = let e = all_left at t in rw (pieces_none 10 (drop at
     open_line s k [] n = absurd (grind arith)
     open_line s k (x ∷ l) n = refl
 
--- the first line is handed out: the rest is read after it
-next_first : (s : Stage) (k : ℕ) (ls : List (List ℕ)) (h : Head) → first_of s k ls ≡ Some (Ok (First h)) → rest s k ls ≡ rest (AfterHead h) (k + 1) (behind_first ls)
-next_first s k [] h v = none_some (Ok (First h)) v
-next_first s k ([] ∷ []) h v = none_some (Ok (First h)) v
-next_first s k ((x ∷ l) ∷ []) h v = no_err (Fault.Unended k) (First h) (same_some _ _ v)
-next_first BeforeHead k (l ∷ m ∷ ls) h v = rw (first_is (head_line k (pieces 44 l)) h (same_some _ _ v))
-next_first (AfterHead u) k (l ∷ m ∷ ls) h v = no_first (move_line u.states k (pieces 44 l)) h (same_some _ _ v)
+-- what is known of the lines ls, of which r is to be read, where o is handed out of them
+abbrev Handed : Stage → ℕ → List (List ℕ) → Result Listing Fault → Option (Result Line Fault) → Type 0
+Handed s k ls r None = (l : List ℕ) (more : List (List ℕ)) → ls ≡ l ∷ more → ls ≡ [] ∷ []
+Handed s k ls r (Some (Err f)) = r ≡ Err f
+Handed s k ls r (Some (Ok (First h))) = (s ≡ BeforeHead) × (r ≡ rest (AfterHead h) (k + 1) (behind_first ls))
+Handed s k ls r (Some (Ok (Step m))) = ((h : Head) × (s ≡ AfterHead h)) × (r ≡ onto m (rest s (k + 1) (behind_first ls)))
 
--- a move is handed out: it stands in front of the rest
-next_step : (s : Stage) (k : ℕ) (ls : List (List ℕ)) (x : Move) → first_of s k ls ≡ Some (Ok (Step x)) → rest s k ls ≡ onto x (rest s (k + 1) (behind_first ls))
-next_step s k [] x v = none_some (Ok (Step x)) v
-next_step s k ([] ∷ []) x v = none_some (Ok (Step x)) v
-next_step s k ((b ∷ l) ∷ []) x v = no_err (Fault.Unended k) (Step x) (same_some _ _ v)
-next_step BeforeHead k (l ∷ m ∷ ls) x v = no_step (head_line k (pieces 44 l)) x (same_some _ _ v)
-next_step (AfterHead h) k (l ∷ m ∷ ls) x v = rw (step_is (move_line h.states k (pieces 44 l)) x (same_some _ _ v)) (onto_moves h x (moves_from h.states (k + 1) (m ∷ ls)))
+handed : (s : Stage) (k : ℕ) (ls : List (List ℕ)) → Handed s k ls (rest s k ls) (first_of s k ls)
+handed s k [] = λ l more e. absurd (cc)
+handed s k ([] ∷ []) = λ l more e. refl
+handed BeforeHead k ((x ∷ l) ∷ []) = refl
+handed (AfterHead u) k ((x ∷ l) ∷ []) = refl
+handed BeforeHead k (l ∷ m ∷ ls) =
+    elim (head_line k (pieces 44 l)) as (λ r. Handed BeforeHead k (l ∷ m ∷ ls) (and_then r (λ h. and_then (moves_from h.states (k + 1) (m ∷ ls)) (λ ms. Ok (with_moves h ms)))) (Some (and_then r (λ h. Ok (First h))))) [ Ok h ↦ (refl, refl) | Err f ↦ refl ]
+handed (AfterHead u) k (l ∷ m ∷ ls) =
+    elim (move_line u.states k (pieces 44 l)) as (λ r. Handed (AfterHead u) k (l ∷ m ∷ ls) (and_then (and_then r (λ x. and_then (moves_from u.states (k + 1) (m ∷ ls)) (λ xs. Ok (x ∷ xs)))) (λ ms. Ok (with_moves u ms))) (Some (and_then r (λ x. Ok (Step x))))) [
+      | Ok x ↦ ((u, refl), onto_moves u x (moves_from u.states (k + 1) (m ∷ ls)))
+      | Err f ↦ refl
+    ]
 
--- a fault is handed out: the rest is refused with it
-next_fault : (s : Stage) (k : ℕ) (ls : List (List ℕ)) (f : Fault) → first_of s k ls ≡ Some (Err f) → rest s k ls ≡ Err f
-next_fault s k [] f v = none_some {A = Result Line Fault} (Err f) v
-next_fault s k ([] ∷ []) f v = none_some {A = Result Line Fault} (Err f) v
-next_fault BeforeHead k ((x ∷ l) ∷ []) f v = ap Err (same_fault {A = Line} (Fault.Unended k) f (same_some _ _ v))
-next_fault (AfterHead h) k ((x ∷ l) ∷ []) f v = ap Err (same_fault {A = Line} (Fault.Unended k) f (same_some _ _ v))
-next_fault BeforeHead k (l ∷ m ∷ ls) f v = rw (fault_is First (head_line k (pieces 44 l)) f (same_some _ _ v))
-next_fault (AfterHead h) k (l ∷ m ∷ ls) f v = rw (fault_is Step (move_line h.states k (pieces 44 l)) f (same_some _ _ v))
+-- the same of what a reader hands out
+abbrev Told : Reader → Option (Result Line Fault) → Type 0
+Told r o = Handed r.stage r.line (left r) (to_come r) o
+
+told : (r : Reader) (o : Option (Result Line Fault)) → o ≡ next_line r → Told r o
+told r o v = subst (Told r) (sym v) (handed r.stage r.line (left r))
 
 -- nothing is handed out: nothing is left
-next_none : (s : Stage) (k : ℕ) (xs : List ℕ) → first_of s k (pieces 10 xs) ≡ None → pieces 10 xs ≡ [] ∷ []
-next_none s k xs v = let p = pieces_some 10 xs in p.2 ∙ go p.0 p.1 (ap (first_of s k) (sym p.2) ∙ v)
-  where
-    go : (l : List ℕ) (ls : List (List ℕ)) → first_of s k (l ∷ ls) ≡ None → l ∷ ls ≡ [] ∷ []
-    go [] [] e = refl
-    go (x ∷ l) [] e = none_some {A = Result Line Fault} (Err (Fault.Unended k)) (sym e)
-    go l (m ∷ ls) e = none_some _ (sym e)
+told_none : (r : Reader) → Told r None → left r ≡ [] ∷ []
+told_none r t = let p = pieces_some 10 (drop r.at r.text.now) in t p.0 p.1 p.2
 
--- the turns of a loop over the lines: a first line
-pub on_first : (r q : Reader) (o : Result Line Fault) (h : Head) → o ≡ Ok (First h) → Some o ≡ next_line r → Onward (Some o) r q → Behind (First h) r q × (to_come r ≡ to_come q)
-on_first r q o h e v on =
-    let b : Behind (First h) r q = subst (λ (y : Result Line Fault). Onward (Some y) r q) e on in
-    (b, next_first r.stage r.line (left r) h (sym v ∙ ap Some e) ∙ rw (b.stage, b.line, b.left))
+-- a first line is handed out: the rest is read after it
+after_first : (r q : Reader) (h : Head) → Told r (Some (Ok (First h))) → Behind (First h) r q → to_come r ≡ to_come q
+after_first r q h t b = t.1 ∙ rw (b.stage, b.line, b.left)
 
--- a move
-pub on_step : (r q : Reader) (o : Result Line Fault) (m : Move) → o ≡ Ok (Step m) → Some o ≡ next_line r → Onward (Some o) r q → Behind (Step m) r q × (to_come r ≡ onto m (to_come q))
-on_step r q o m e v on =
-    let b : Behind (Step m) r q = subst (λ (y : Result Line Fault). Onward (Some y) r q) e on in
-    (b, next_step r.stage r.line (left r) m (sym v ∙ ap Some e) ∙ rw (b.stage, b.line, b.left))
+-- a move is handed out: it stands in front of the rest
+after_step : (r q : Reader) (m : Move) → Told r (Some (Ok (Step m))) → Behind (Step m) r q → to_come r ≡ onto m (to_come q)
+after_step r q m t b = t.1 ∙ rw (b.stage, b.line, b.left)
 
--- a fault
+-- a fault is handed out: the rest is refused with it
 pub on_fault : (r : Reader) (o : Result Line Fault) (f : Fault) → o ≡ Err f → Some o ≡ next_line r → to_come r ≡ Err f
-on_fault r o f e v = next_fault r.stage r.line (left r) f (sym v ∙ ap Some e)
+on_fault r o f e v = told r (Some (Err f)) (ap Some (sym e) ∙ v)
 
--- the end
+-- the end of the text
 pub on_end : (r q : Reader) → None ≡ next_line r → Onward None r q → to_come r ≡ rest q.stage q.line ([] ∷ [])
-on_end r q v on =
-    ap (rest r.stage r.line) (next_none r.stage r.line (drop r.at r.text.now) (sym v)) ∙ rw (on.stage, on.line)
-
--- a first line is handed out only before the first
-first_then : (s : Stage) (k : ℕ) (ls : List (List ℕ)) (h : Head) → first_of s k ls ≡ Some (Ok (First h)) → s ≡ BeforeHead
-first_then BeforeHead k ls h v = refl
-first_then (AfterHead u) k [] h v = none_some (Ok (First h)) v
-first_then (AfterHead u) k ([] ∷ []) h v = none_some (Ok (First h)) v
-first_then (AfterHead u) k ((x ∷ l) ∷ []) h v = no_err (Fault.Unended k) (First h) (same_some _ _ v)
-first_then (AfterHead u) k (l ∷ m ∷ ls) h v = no_first (move_line u.states k (pieces 44 l)) h (same_some _ _ v)
-
--- and a move only after it
-step_then : (s : Stage) (k : ℕ) (ls : List (List ℕ)) (m : Move) → first_of s k ls ≡ Some (Ok (Step m)) → (h : Head) × (s ≡ AfterHead h)
-step_then BeforeHead k [] m v = none_some (Ok (Step m)) v
-step_then BeforeHead k ([] ∷ []) m v = none_some (Ok (Step m)) v
-step_then BeforeHead k ((x ∷ l) ∷ []) m v = no_err (Fault.Unended k) (Step m) (same_some _ _ v)
-step_then BeforeHead k (l ∷ n ∷ ls) m v = no_step (head_line k (pieces 44 l)) m (same_some _ _ v)
-step_then (AfterHead h) k ls m v = (h, refl)
+on_end r q v on = ap (rest r.stage r.line) (told_none r (told r None v)) ∙ rw (on.stage, on.line)
 
 -- the line in which a reader stands, by what it has read
 abbrev pub Standing : Stage → ℕ → Type 0
@@ -176,20 +131,19 @@ Standing (AfterHead h) k = 2 ≤ k
 
 -- past a line, there are as many moves behind as lines past the first
 pub counts_on : (s : Result Summary Fault) (r q : Reader) (o : Result Line Fault) (x : Line) → o ≡ Ok x → Some o ≡ next_line r → Onward (Some o) r q → Standing r.stage r.line → counted (r.line - 2) (to_come r) ≡ s → (q.text.now ≡ r.text.now) × (r.at < q.at) × Standing q.stage q.line × (counted (q.line - 2) (to_come q) ≡ s)
-counts_on s r q o (First h) e v on st c =
-    let b = on_first r q o h e v on in
-    let t = first_then r.stage r.line (left r) h (sym v ∙ ap Some e) in
-    let k : r.line ≡ 1 = rw t at st in
-    let n : q.line - 2 ≡ r.line - 2 = omega (arith, b.0.line) in
-    let l : 2 ≤ q.line = omega (arith, b.0.line) in
-    (b.0.text, b.0.further, rw b.0.stage l, rw n (ap (counted (r.line - 2)) (sym b.1) ∙ c))
-counts_on s r q o (Step m) e v on st c =
-    let b = on_step r q o m e v on in
-    let t = step_then r.stage r.line (left r) m (sym v ∙ ap Some e) in
-    let k : 2 ≤ r.line = rw t.1 at st in
-    let n : q.line - 2 ≡ r.line - 2 + 1 = omega (arith, b.0.line) in
-    let l : 2 ≤ q.line = omega (arith, b.0.line) in
-    (b.0.text, b.0.further, rw (b.0.stage, t.1) l, rw n (sym (ap (counted (r.line - 2)) b.1 ∙ counted_onto (r.line - 2) m (to_come q)) ∙ c))
+counts_on s r q o x e v on st c = go x (told r (Some (Ok x)) (ap Some (sym e) ∙ v)) (subst (λ (y : Result Line Fault). Onward (Some y) r q) e on)
+  where
+    go : (x : Line) → Told r (Some (Ok x)) → Behind x r q → (q.text.now ≡ r.text.now) × (r.at < q.at) × Standing q.stage q.line × (counted (q.line - 2) (to_come q) ≡ s)
+    go (First h) t b =
+        let k : r.line ≡ 1 = rw t.0 at st in
+        let n : q.line - 2 ≡ r.line - 2 = omega (arith, b.line) in
+        let l : 2 ≤ q.line = omega (arith, b.line) in
+        (b.text, b.further, rw b.stage l, rw n (ap (counted (r.line - 2)) (sym (after_first r q h t b)) ∙ c))
+    go (Step m) t b =
+        let k : 2 ≤ r.line = rw t.0.1 at st in
+        let n : q.line - 2 ≡ r.line - 2 + 1 = omega (arith, b.line) in
+        let l : 2 ≤ q.line = omega (arith, b.line) in
+        (b.text, b.further, rw (b.stage, t.0.1) l, rw n (sym (ap (counted (r.line - 2)) (after_step r q m t b) ∙ counted_onto (r.line - 2) m (to_come q)) ∙ c))
 
 -- so at the end of the text, where the first line stands behind
 pub stands : (r q : Reader) (h : Head) → Standing r.stage r.line → Onward None r q → q.stage ≡ AfterHead h → 2 ≤ q.line
@@ -199,49 +153,30 @@ stands r q h st on e =
 
 -- what is handed out where all is to be read without fault is the first line
 pub first_handed : (r q : Reader) (o : Option (Result Line Fault)) → is_ok (to_come r) ≡ true → r.stage ≡ BeforeHead → o ≡ next_line r → Onward o r q → (h : Head) × (q.stage ≡ AfterHead h) × (to_come r ≡ to_come q)
-first_handed r q o k s e on =
-    let n : is_ok (rest BeforeHead r.line (left r)) ≡ true = rw s at k in
-    let t = known r.line (left r) n in
-    let v : next_line r ≡ Some (Ok (First t.0)) = rw s t.1 in
-    let b = on_first r q (Ok (First t.0)) t.0 refl (sym v) (subst (λ (y : Option (Result Line Fault)). Onward y r q) (e ∙ v) on) in
-    (t.0, b.0.stage, b.1)
+first_handed r q o k s e = go o (told r o e)
   where
-    known_by : {B : Type 0} (r : Result Head Fault) (g : Head → Result B Fault) → is_ok (and_then r g) ≡ true → (h : Head) × (r ≡ Ok h)
-    known_by (Ok h) g k = (h, refl)
-    known_by (Err f) g k = absurd (grind arith)
-
-    known : (k : ℕ) (ls : List (List ℕ)) → is_ok (rest BeforeHead k ls) ≡ true → (h : Head) × (first_of BeforeHead k ls ≡ Some (Ok (First h)))
-    known k [] n = absurd (grind arith)
-    known k (l ∷ []) n = absurd (grind arith)
-    known k (l ∷ m ∷ ls) n =
-        let t = known_by (head_line k (pieces 44 l)) (λ h. and_then (moves_from h.states (k + 1) (m ∷ ls)) (λ ms. Ok (with_moves h ms))) n in
-        (t.0, ap (λ (r : Result Head Fault). Some (and_then r (λ x. Ok (First x)))) t.1)
+    go : (o : Option (Result Line Fault)) → Told r o → Onward o r q → (h : Head) × (q.stage ≡ AfterHead h) × (to_come r ≡ to_come q)
+    go None t on = let n : is_ok (rest BeforeHead r.line ([] ∷ [])) ≡ true = rw (s, told_none r t) at k in absurd (cc)
+    go (Some (Err f)) t on = let n : is_ok {T = Listing} {E = Fault} (Err f) ≡ true = rw t at k in absurd (cc)
+    go (Some (Ok (First h))) t on = (h, on.stage, after_first r q h t on)
+    go (Some (Ok (Step m))) t on = let n : BeforeHead ≡ AfterHead t.0.0 = sym s ∙ t.0.1 in absurd (cc)
 
 -- the move in a line
 pub move_handed : (r q : Reader) (m : Move) → Some m ≡ move_in (next_line r) → Onward (next_line r) r q → Behind (Step m) r q × (to_come r ≡ onto m (to_come q))
-move_handed r q m e on =
-    let v = is_step (next_line r) m (sym e) in
-    on_step r q (Ok (Step m)) m refl (sym v) (subst (λ (y : Option (Result Line Fault)). Onward y r q) v on)
+move_handed r q m = go (next_line r) (told r (next_line r) refl)
   where
-    is_step : (o : Option (Result Line Fault)) (m : Move) → move_in o ≡ Some m → o ≡ Some (Ok (Step m))
-    is_step None m h = none_some m h
-    is_step (Some (Ok (First u))) m h = none_some m h
-    is_step (Some (Ok (Step n))) m h = let e : n ≡ m = cc in ap (λ (x : Move). Some (Ok (Step x))) e
-    is_step (Some (Err f)) m h = none_some m h
+    go : (o : Option (Result Line Fault)) → Told r o → Some m ≡ move_in o → Onward o r q → Behind (Step m) r q × (to_come r ≡ onto m (to_come q))
+    go None t e on = absurd (cc)
+    go (Some (Err f)) t e on = absurd (cc)
+    go (Some (Ok (First h))) t e on = absurd (cc)
+    go (Some (Ok (Step n))) t e on = let i : n ≡ m = cc in subst (λ (x : Move). Behind (Step x) r q × (to_come r ≡ onto x (to_come q))) i (on, after_step r q n t on)
 
 -- where there is none after the first line, none is to come without fault
 pub none_handed : (r : Reader) (h : Head) → r.stage ≡ AfterHead h → is_ok (to_come r) ≡ true → None ≡ move_in (next_line r) → moves_of (to_come r) ≡ []
-none_handed r h s k e =
-    let p = pieces_some 10 (drop r.at r.text.now) in
-    let k' : is_ok (rest (AfterHead h) r.line (p.0 ∷ p.1)) ≡ true = rw (s, p.2) at k in
-    let e' : None ≡ move_in (first_of (AfterHead h) r.line (p.0 ∷ p.1)) = rw (s, p.2) at e in
-    rw (s, p.2) (go r.line p.0 p.1 k' e')
+none_handed r h s k = go (next_line r) (told r (next_line r) refl)
   where
-    go_by : {B : Type 0} (x : Result Move Fault) (g : Move → Result (List Move) Fault) → is_ok (and_then {B = Listing} (and_then x g) (λ ms. Ok (with_moves h ms))) ≡ true → None ≡ move_in (Some (and_then x (λ m. Ok (Step m)))) → B
-    go_by (Ok m) g k e = none_some m e
-    go_by (Err f) g k e = absurd (grind arith)
-
-    go : (k : ℕ) (l : List ℕ) (ls : List (List ℕ)) → is_ok (rest (AfterHead h) k (l ∷ ls)) ≡ true → None ≡ move_in (first_of (AfterHead h) k (l ∷ ls)) → moves_of (rest (AfterHead h) k (l ∷ ls)) ≡ []
-    go k [] [] n e = refl
-    go k (x ∷ l) [] n e = absurd (grind arith)
-    go k l (m ∷ ls) n e = go_by (move_line h.states k (pieces 44 l)) (λ x. and_then (moves_from h.states (k + 1) (m ∷ ls)) (λ xs. Ok (x ∷ xs))) n e
+    go : (o : Option (Result Line Fault)) → Told r o → None ≡ move_in o → moves_of (to_come r) ≡ []
+    go None t e = rw (s, told_none r t)
+    go (Some (Err f)) t e = rw t
+    go (Some (Ok (First u))) t e = let n : AfterHead h ≡ BeforeHead = sym s ∙ t.0 in absurd (cc)
+    go (Some (Ok (Step m))) t e = absurd (cc)
