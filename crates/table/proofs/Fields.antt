@@ -1,6 +1,6 @@
-use Rattle.std.proofs.Common.{◌≡◌, ℕ, ◌+◌, ◌-◌, ◌<◌, ◌≤◌, cond, Bool, true, eqb, List, [], ◌∷◌, Some, Ok, Err, codes, decimal, Result, sym, refl, ap, ◌∙◌, subst, inl, inr, arith}
+use Rattle.std.proofs.Common.{◌≡◌, ℕ, ◌+◌, ◌-◌, ◌<◌, ◌≤◌, cond, Bool, true, eqb, List, [], ◌∷◌, Some, Ok, Err, codes, decimal, Result, sym, ap, ◌∙◌, subst, inl, inr, arith}
 use Rattle.std.specs.Str.{bytes_eq}
-use Rattle.std.proofs.lemmas.Bool.{cases_Bool, cases_lt, ne_eqb, eqb-false}
+use Rattle.std.proofs.lemmas.Bool.{cases_lt, ne_eqb}
 use Rattle.std.proofs.lemmas.Bool.Decides.{nat_tests}
 use Rattle.std.proofs.lemmas.Slice.Eq.{bytes_eq-Decides}
 use Rattle.table.specs.declared.fault.Fault.{Fault}
@@ -29,14 +29,7 @@ states_ok k n s h =
     let p = then_ok (number_at 256 k 2 s) (λ m. cond (eqb m 0) (Err (Fault.Figure k 2)) (Ok m)) n h in
     let q = number_ok 256 k 2 p.0 s (omega arith) (omega arith) p.1 in
     let r = p.2 in
-    elim (cases_Bool (eqb p.0 0)) [
-      | inl t ↦ no_err (Fault.Figure k 2) n (rw t at r)
-      | inr f ↦
-          let e : ◌≡◌ {A = Result ℕ Fault} (Ok p.0) (Ok n) = rw f at r in
-          let i : p.0 ≡ n = cc in
-          let z : p.0 ≡ 0 → ⊥ = eqb-false p.0 0 f in
-          (omega arith, omega arith, q.1 ∙ ap decimal i)
-    ]
+    (grind (arith, nat_tests), grind (arith, nat_tests), grind (arith, nat_tests))
 
 -- the decimal of such a number is read
 pub states_from : (k n : ℕ) → 0 < n → n < 256 → states_at k 2 (decimal n) ≡ Ok n
@@ -116,15 +109,11 @@ kind_table w h = (bytes_eq-Decides w (codes "table")).0 (by_word (bytes_eq w (co
 
 -- what is read only of a move line was read of one
 if_move_ok : {A : Type 0} (w : Kind) (r : Result A Fault) (f : Fault) (a : A) → if_move w r (Err f) ≡ Ok a → (w ≡ Kind.Move) × (r ≡ Ok a)
-if_move_ok Kind.Table r f a h = no_err f a h
-if_move_ok Kind.Move r f a h = (refl, h)
-if_move_ok Kind.Other r f a h = no_err f a h
+if_move_ok w r f a h = grind arith
 
 -- what is read only of a table line was read of one
 if_table_ok : {A : Type 0} (w : Kind) (r : Result A Fault) (f : Fault) (a : A) → if_table w r (Err f) ≡ Ok a → (w ≡ Kind.Table) × (r ≡ Ok a)
-if_table_ok Kind.Table r f a h = (refl, h)
-if_table_ok Kind.Move r f a h = no_err f a h
-if_table_ok Kind.Other r f a h = no_err f a h
+if_table_ok w r f a h = grind arith
 
 -- lists of three, and of five with the same first, are equal by their elements
 same_three : {X : Type 0} {a a' b b' c c' : X} → a ≡ a' → b ≡ b' → c ≡ c' → a ∷ b ∷ c ∷ [] ≡ a' ∷ b' ∷ c' ∷ []

@@ -1,5 +1,4 @@
 use Rattle.std.proofs.Common.{◌≡◌, ℕ, ◌+◌, ◌<◌, ◌≤◌, cond, eqb, ◌⊎◌, List, [], ◌∷◌, length, Ok, Err, codes, Result, sym, refl, ap, ◌∙◌, subst, inl, inr, arith}
-use Rattle.std.proofs.lemmas.Bool.{cases_Bool}
 use Rattle.table.specs.declared.fault.Fault.{Fault}
 use Rattle.source.specs.declared.table.Move.{Move}
 use Rattle.table.specs.declared.head.Head.{Head}
@@ -36,16 +35,10 @@ states_read k n s p = ap (states_at k 2) p.2 ∙ states_from k n p.0 p.1
 
 -- the number of states is refused in one way only
 states_fault : (k : ℕ) (s : List ℕ) (f : Fault) → states_at k 2 s ≡ Err f → f ≡ Fault.Figure k 2
-states_fault k s f h =
-    elim (then_err (number_at 256 k 2 s) (λ n. cond (eqb n 0) (Err (Fault.Figure k 2)) (Ok n)) f h) [
-      | inl a ↦ number_fault 256 k 2 s f a
-      | inr p ↦
-          let r = p.2 in
-          elim (cases_Bool (eqb p.0 0)) [
-            | inl t ↦ sym (same_fault {A = ℕ} (Fault.Figure k 2) f (rw t at r))
-            | inr t ↦ no_ok f p.0 (rw t at r)
-          ]
-    ]
+states_fault k s f h = by_number (number_at 256 k 2 s) (number_fault 256 k 2 s f) h
+  where
+    by_number : (r : Result ℕ Fault) → (r ≡ Err f → f ≡ Fault.Figure k 2) → and_then r (λ n. cond (eqb n 0) (Err (Fault.Figure k 2)) (Ok n)) ≡ Err f → f ≡ Fault.Figure k 2
+    by_number r only e = grind arith
 
 -- what is no number of states is refused
 states_refused : (k : ℕ) (s : List ℕ) → ((n : ℕ) → IsStates n s → ⊥) → states_at k 2 s ≡ Err (Fault.Figure k 2)
@@ -137,15 +130,11 @@ silent_refused k (x ∷ s) never = refl
 
 -- a line of another kind is misshapen
 if_move_err : {A : Type 0} (w : Kind) (r : Result A Fault) (e f : Fault) → if_move w r (Err e) ≡ Err f → ((w ≡ Kind.Move → ⊥) × (e ≡ f)) ⊎ ((w ≡ Kind.Move) × (r ≡ Err f))
-if_move_err {A} Kind.Table r e f h = inl ((λ d. cc), same_fault {A = A} e f h)
-if_move_err Kind.Move r e f h = inr (refl, h)
-if_move_err {A} Kind.Other r e f h = inl ((λ d. cc), same_fault {A = A} e f h)
+if_move_err w r e f h = grind arith
 
 -- the same for a first line
 if_table_err : {A : Type 0} (w : Kind) (r : Result A Fault) (e f : Fault) → if_table w r (Err e) ≡ Err f → ((w ≡ Kind.Table → ⊥) × (e ≡ f)) ⊎ ((w ≡ Kind.Table) × (r ≡ Err f))
-if_table_err Kind.Table r e f h = inr (refl, h)
-if_table_err {A} Kind.Move r e f h = inl ((λ d. cc), same_fault {A = A} e f h)
-if_table_err {A} Kind.Other r e f h = inl ((λ d. cc), same_fault {A = A} e f h)
+if_table_err w r e f h = grind arith
 
 -- a line of other than five fields is no move line
 not_five : (n k : ℕ) (fs : List (List ℕ)) (f : Fault) → (length fs ≡ 5 → ⊥) → ◌≡◌ {A = Result Move Fault} (Err (Fault.Misshapen k)) (Err f) → MoveFault n k fs f

@@ -11,17 +11,9 @@ no_err f a h = absurd (cc)
 pub no_ok : {A B : Type 0} (f : Fault) (a : A) → ◌≡◌ {A = Result A Fault} (Ok a) (Err f) → B
 no_ok f a h = no_err f a (sym h)
 
--- nothing is not something
-pub none_some : {A B : Type 0} (a : A) → ◌≡◌ {A = Option A} None (Some a) → B
-none_some a h = absurd (cc)
-
 -- equal refusals have one fault
 pub same_fault : {A : Type 0} (e f : Fault) → ◌≡◌ {A = Result A Fault} (Err e) (Err f) → e ≡ f
 same_fault e f h = cc
-
--- equal things that are there are one
-pub same_some : {A : Type 0} (a b : A) → ◌≡◌ {A = Option A} (Some a) (Some b) → a ≡ b
-same_some a b h = cc
 
 -- a reading in steps succeeded in each step
 pub then_ok : {A B : Type 0} (r : Result A Fault) (g : A → Result B Fault) (b : B) → and_then r g ≡ Ok b → (a : A) × (r ≡ Ok a) × (g a ≡ Ok b)

@@ -49,13 +49,6 @@ move_six n k (a ∷ b ∷ c ∷ []) = refl
 move_six n k (a ∷ b ∷ c ∷ d ∷ []) = refl
 move_six n k (a ∷ b ∷ c ∷ d ∷ e ∷ es) = refl
 
--- the same for a first line
-pub head_six : (k : ℕ) (fs : List (List ℕ)) → head_of k (take 5 fs) ≡ head_of k fs
-head_six k [] = refl
-head_six k (a ∷ []) = refl
-head_six k (a ∷ b ∷ []) = refl
-head_six k (a ∷ b ∷ c ∷ cs) = refl
-
 -- a line of the move kind is read by the fields after its first
 pub move_line_by : (n k : ℕ) (fs : List (Bor (List ℕ))) (ps : List (List ℕ)) → map (λ f. f.now) fs ≡ take 6 ps → 0 < length fs → kind_of (field fs 0) ≡ Kind.Move → move_of n k (map (λ f. f.now) (drop 1 fs)) ≡ move_line n k ps
 move_line_by n k [] ps e l h = absurd (omega arith)
