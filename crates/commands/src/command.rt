@@ -8,6 +8,7 @@ use crate::words::words_of;
 use calls::Pile;
 use table::small_figure;
 
+/// A call on a house, as a line makes it.
 #[derive(Clone, Copy, PartialEq, Eq, Debug)]
 pub enum Command<'a> {
     /// Read the table in this file, and keep it.
