@@ -1,23 +1,23 @@
 -- Where a call is taken, none of its tests fails; and a call that does what the definitions say goes on the history.
-use Rattle.std.proofs.Common.{◌≡◌, ℕ, Bool, true, false, cond, List, [], ◌∷◌, Ok, Err, Result, sym, refl, ap, ◌∙◌, subst, ⊎_elim, arith}
+use Rattle.std.proofs.Common.{◌≡◌, ℕ, Bool, true, false, cond, List, [], ◌∷◌, is_err, Ok, Err, Result, sym, refl, ap, ◌∙◌, subst, ⊎_elim, arith}
 use Rattle.std.specs.List.{AllByRecursion}
 use Rattle.std.proofs.lemmas.Bool.{true≢false, cases_Bool, cond-true, cond-false}
 use Rattle.calls.specs.declared.refusal.Refusal.{Refusal}
 use Rattle.calls.specs.declared.request.Reply.{Reply}
 use Rattle.calls.specs.Contents.{Contents}
-use Rattle.calls.specs.Calls.{Call, Test, unless_failed, replied, is_refused, refuses_call, changed, after}
+use Rattle.calls.specs.Calls.{Call, Test, unless_failed, replied, refuses_call, changed, after}
 use Rattle.calls.specs.Histories.{Leaves, refused, taken, GoesOn}
 
 pub passed : {A : Type 0} (f : A → Reply) (x : Result A Refusal) (ts : List Test) →
-    is_refused (replied f (unless_failed ts Err x)) ≡ false → AllByRecursion (λ t. t.fails ≡ false) ts × (is_refused (replied f x) ≡ false)
+    is_err (replied f (unless_failed ts Err x)) ≡ false → AllByRecursion (λ t. t.fails ≡ false) ts × (is_err (replied f x) ≡ false)
 passed f x [] e = (tt, e)
 passed f x (t ∷ ts) e =
     let r = first t.fails e in
     let s = passed f x ts r.1 in
     ((r.0, s.0), s.1)
   where
-    first : (b : Bool) → is_refused (replied f (cond b (Err t.with_this) (unless_failed ts Err x))) ≡ false →
-        (b ≡ false) × (is_refused (replied f (unless_failed ts Err x)) ≡ false)
+    first : (b : Bool) → is_err (replied f (cond b (Err t.with_this) (unless_failed ts Err x))) ≡ false →
+        (b ≡ false) × (is_err (replied f (unless_failed ts Err x)) ≡ false)
     first true e = absurd (true≢false e)
     first false e = (refl, e)
 
@@ -62,8 +62,8 @@ pub when_taken : (H : Contents) (c : Call) (K : Contents) → refuses_call H c �
 when_taken H c K e f = let k = f ∙ sym (cond-false (refuses_call H c) H (changed H c) e) in (k, goes_on H c K k)
 
 -- an answer that is no refusal, and one that is
-pub err_refused : {A : Type 0} (f : A → Reply) (r : Result A Refusal) (e : Refusal) → Err e ≡ r → is_refused (replied f r) ≡ true
-err_refused {A} f r e i = ap (λ (x : Result A Refusal). is_refused (replied f x)) (sym i)
+pub err_refused : {A : Type 0} (f : A → Reply) (r : Result A Refusal) (e : Refusal) → Err e ≡ r → is_err (replied f r) ≡ true
+err_refused {A} f r e i = ap (λ (x : Result A Refusal). is_err (replied f x)) (sym i)
 
-pub ok_taken : {A : Type 0} (f : A → Reply) (r : Result A Refusal) (a : A) → is_refused (f a) ≡ false → Ok a ≡ r → is_refused (replied f r) ≡ false
-ok_taken {A} f r a t i = ap (λ (x : Result A Refusal). is_refused (replied f x)) (sym i) ∙ t
+pub ok_taken : {A : Type 0} (f : A → Reply) (r : Result A Refusal) (a : A) → Ok a ≡ r → is_err (replied f r) ≡ false
+ok_taken {A} f r a i = ap (λ (x : Result A Refusal). is_err (replied f x)) (sym i)

@@ -1,5 +1,5 @@
 -- The five calls: which tests each makes and in which order, what it answers, and what it leaves.
-use Rattle.std.specs.Prelude.{◌≡◌, ℕ, ◌+◌, ◌≤◌, Bool, true, false, cond, not, leb, ◌↔◌, List, [], ◌∷◌, length, Some, None, Ok, Err, Option, Result, nat_le, nat_lt}
+use Rattle.std.specs.Prelude.{◌≡◌, ℕ, ◌+◌, ◌≤◌, Bool, true, false, cond, not, leb, ◌↔◌, List, [], ◌∷◌, length, Some, None, Ok, Err, Option, Result, is_err, nat_le, nat_lt}
 use Rattle.lts.specs.Machines.{Machine, Fits}
 use Rattle.lts.specs.Conformance.{MachineConforms}
 use Rattle.source.specs.declared.refusal.Refusal as judging
@@ -116,25 +116,19 @@ fit_workspace H s p was =
     unless_failed (fit_tests H s p) (λ _. was) (workspace_after (fitted_machine H p) (contract_machine H s) was)
 
 -- what a call answers, whichever it is
-abbrev pub replied : {A : Type 0} → (A → Reply) → Result A Refusal → Reply
-replied f (Ok a) = f a
-replied f (Err e) = Reply.Refused e
+abbrev pub replied : {A : Type 0} → (A → Reply) → Result A Refusal → Result Reply Refusal
+replied f (Ok a) = Ok (f a)
+replied f (Err e) = Err e
 
-abbrev pub reply : Contents → Call → Reply
+abbrev pub reply : Contents → Call → Result Reply Refusal
 reply H (enter text) = replied Reply.Entered (enter_result H (read_text text))
 reply H (seat s c) = replied (λ _. Reply.Done) (seat_result H s c)
 reply H (fit s p room) = replied Reply.Fitted (fit_result H s p room)
 reply H (unfit s) = replied (λ _. Reply.Done) (unfit_result H s)
 reply H (clear s) = replied (λ _. Reply.Done) (clear_result H s)
 
-abbrev pub is_refused : Reply → Bool
-is_refused (Reply.Entered n) = false
-is_refused (Reply.Fitted v) = false
-is_refused Reply.Done = false
-is_refused (Reply.Refused e) = true
-
 abbrev pub refuses_call : Contents → Call → Bool
-refuses_call H c = is_refused (reply H c)
+refuses_call H c = is_err (reply H c)
 
 -- what a call that is taken makes of the house
 abbrev pub changed : Contents → Call → Contents

@@ -1,9 +1,10 @@
 -- A house by its history: the calls that were made, the last one first, and of these the calls that were taken.
-use Rattle.std.specs.Prelude.{◌≡◌, ℕ, true, false, cond, List, [], ◌∷◌, Some, None, Option, ◌==◌}
+use Rattle.std.specs.Prelude.{◌≡◌, ℕ, true, false, cond, List, [], ◌∷◌, Some, None, Option, Result, ◌==◌}
 use Rattle.table.specs.Table.{Listing, read_text}
 use Rattle.calls.specs.declared.seat.Pile.{Pile}
 use Rattle.calls.specs.declared.seat.Seat.{Seat}
 use Rattle.calls.specs.declared.seat.Seat.TheVariants.{Empty, Contract, Fitted}
+use Rattle.calls.specs.declared.refusal.Refusal.{Refusal}
 use Rattle.calls.specs.declared.request.Reply.{Reply}
 use Rattle.calls.specs.Contents.{Contents, empty_house, one_more}
 use Rattle.calls.specs.Calls.{Call, enter, seat, fit, unfit, clear, reply, refuses_call, changed}
@@ -57,7 +58,7 @@ taken_of [] = []
 taken_of (c ∷ past) = cond (refuses_call (left_by (taken_of past)) c) (taken_of past) (c ∷ taken_of past)
 
 -- what the calls are answered, in the same order
-unfoldable pub replies : List Call → List Reply
+unfoldable pub replies : List Call → List (Result Reply Refusal)
 replies [] = []
 replies (c ∷ past) = reply (left_by (taken_of past)) c ∷ replies past
 

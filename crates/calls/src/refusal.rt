@@ -1,5 +1,6 @@
 ghost use Rattle.std.specs.Prelude.{◌≡◌};
 ghost use Rattle.calls.specs.Refusals.{number};
+ghost use Rattle.calls.specs.declared.refusal.Refusal.TheVariants as refusal;
 
 use judge::verdict::Counterexample;
 use source::refusal::Refusal as Unjudged;
@@ -46,5 +47,21 @@ impl Refusal {
             Refusal::Unjudged(refusal) => refusal.number(),
             Refusal::DoesNotConform { .. } => 12,
         }
+    }
+}
+
+impl From<Fault> for Refusal {
+    ghost from_gives = { λ fault r. r ≡ refusal.Text fault };
+
+    fn from(fault: Fault) -> Self {
+        Self::Text(fault)
+    }
+}
+
+impl From<Unjudged> for Refusal {
+    ghost from_gives = { λ unjudged r. r ≡ refusal.Unjudged unjudged };
+
+    fn from(unjudged: Unjudged) -> Self {
+        Self::Unjudged(unjudged)
     }
 }

@@ -26,8 +26,7 @@ impl Seat {
     {
         match self {
             Seat::Empty => None,
-            Seat::Contract(c) => Some(c),
-            Seat::Fitted(c, _) => Some(c),
+            Seat::Contract(c) | Seat::Fitted(c, _) => Some(c),
         }
     }
 }

@@ -1,4 +1,4 @@
-use Rattle.std.proofs.Common.{◌≡◌, List, reverse, take, sym, refl, ap, ◌∙◌, subst, inl, inr}
+use Rattle.std.proofs.Common.{◌≡◌, ℕ, List, reverse, take, Bor, sym, refl, ap, ◌∙◌, subst, inl, inr}
 use Rattle.std.proofs.lemmas.List.{take_all}
 use Rattle.calls.specs.Contents.{Contents}
 use Rattle.calls.specs.Calls.{Call}
@@ -25,16 +25,16 @@ pub loop-i-preserved : goal.loop-i-preserved
 loop-i-preserved g c =
     let rs = c.args.requests.now in
     let i = c.loop-i.i in
-    let w : Written c.loop-i.answers i c.make-reply.result c.if-i-answers.answers =
+    let w : Written c.loop-i.answers i c.make-answer.result c.if-i-answers.answers =
     elim c.if-i-answers.branch [
       | then-i-answers w ↦ inl w.answers-is
       | else-i-answers w ↦ inr (w.if-i-answers.false, w.answers-is)
     ] in (
-      subst (λ (cs : List Call). Leaves cs (means c.make-reply.new.house)) (sym (calls_more rs i _ c.loop-i-test.true))
-          (goes_on (means c.loop-i.house) _ (means c.make-reply.new.house) c.make-reply.ensures.left (calls_of (take i rs)) c.loop-i.invariant.0),
-      c.make-reply.auto.workspace ∙ c.loop-i.invariant.1,
-      answers_more rs i _ c.make-reply.result c.args.answers.now c.loop-i.answers c.if-i-answers.answers
-          c.loop-i-test.true c.loop-i.invariant.0 c.make-reply.ensures.answer w c.loop-i.invariant.2,
+      subst (λ (cs : List Call). Leaves cs (means c.make-answer.new.house)) (sym (calls_more rs i _ c.loop-i-test.true))
+          (goes_on (means c.loop-i.house) _ (means c.make-answer.new.house) c.make-answer.ensures.left (calls_of (take i rs)) c.loop-i.invariant.0),
+      c.make-answer.auto.workspace ∙ c.loop-i.invariant.1,
+      answers_more rs i _ c.make-answer.result c.args.answers.now c.loop-i.answers c.if-i-answers.answers
+          c.loop-i-test.true c.loop-i.invariant.0 c.make-answer.ensures.answer w c.loop-i.invariant.2,
     )
 
 pub returns : goal.returns
@@ -42,10 +42,10 @@ returns g c =
     let rs = c.args.requests.now in
     let e : take c.loop-i.i rs ≡ rs = take_all c.loop-i.i rs c.loop-i-test.false in
     let l : Leaves (calls_of rs) (means c.loop-i.house) =
-    subst (λ (xs : List Request). Leaves (calls_of xs) (means c.loop-i.house)) e c.loop-i.invariant.0 in
+    subst (λ (xs : List (Request (Bor (List ℕ)))). Leaves (calls_of xs) (means c.loop-i.house)) e c.loop-i.invariant.0 in
     record {
       run = l;
       house = leaves_left l;
-      answers = c.loop-i.invariant.2 ∙ ap (λ (xs : List Request). written_over (reverse (replies (calls_of xs))) c.args.answers.now) e;
+      answers = c.loop-i.invariant.2 ∙ ap (λ (xs : List (Request (Bor (List ℕ)))). written_over (reverse (replies (calls_of xs))) c.args.answers.now) e;
       promise = subst (λ (H : Contents). StuckOnlyWhereContractsCan g.E.System.system H) (leaves_left l) (house_keeps g.E.System.system c.loop-i.house);
     }

@@ -1,4 +1,4 @@
-use Rattle.std.proofs.Common.{◌≡◌, Ok, Err, sym, refl, ap, ◌∙◌}
+use Rattle.std.proofs.Common.{◌≡◌, Ok, Err, sym, ap, ◌∙◌}
 use Rattle.std.proofs.lemmas.Result.{err_from_is_err_and}
 use Rattle.calls.specs.declared.request.Reply.{Reply}
 use Rattle.calls.specs.Seats.{contract}
@@ -24,5 +24,5 @@ returns c =
     let s = c.args.s in
     let q = all_pass (clear_tests H s) (contract (seat_at H s)) c.in_ok-may_clear.field-0 c.in_ok-may_clear.ensures in
     let a : Ok tt ≡ clear_result H s = sym (skipped (clear_tests H s) q.0 Err (Ok tt)) in
-    let z = when_taken H (clear s) (means c.put.new.self) (ok_taken (λ _. Reply.Done) (clear_result H s) tt refl a) c.put.ensures in
+    let z = when_taken H (clear s) (means c.put.new.self) (ok_taken (λ _. Reply.Done) (clear_result H s) tt a) c.put.ensures in
     record { answer = a; house = z.0; history = z.1 }

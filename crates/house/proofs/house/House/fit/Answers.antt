@@ -110,7 +110,7 @@ returns c =
     let j : Ok v ≡ yes_or_refused (judged P Q w) =
     c.in_ok-verdict.ensures.value ∙ ap (λ (k : ℕ). yes_or_refused (judged P (machine_at H.tables k) w)) q.1 in
     let i : Ok v ≡ fit_result H s pile w = j ∙ sym (skipped ts q.0 Err (yes_or_refused (judged P Q w))) in
-    let z = when_taken H (fit s pile w) (means c.put.new.self) (ok_taken Reply.Fitted (fit_result H s pile w) v refl i)
+    let z = when_taken H (fit s pile w) (means c.put.new.self) (ok_taken Reply.Fitted (fit_result H s pile w) v i)
     (c.put.ensures ∙ ap (λ (k : ℕ). with_seat H s (Fitted k pile)) q.1) in
     record {
       answer = i;

@@ -1,4 +1,4 @@
-use Rattle.std.proofs.Common.{◌≡◌, ◌+◌, ◌-◌, ◌≤◌, true, false, ltb, leb, List, length, Ok, Err, Result, sym, refl, ap, ◌∙◌, subst, arith, length-set, rules}
+use Rattle.std.proofs.Common.{◌≡◌, ◌+◌, ◌-◌, ◌≤◌, true, false, ltb, leb, List, length, Ok, Err, Result, sym, ap, ◌∙◌, subst, arith, length-set, rules}
 use Rattle.std.proofs.lemmas.List.{take-append-drop}
 use Rattle.std.proofs.lemmas.Bool.{le-leb, lt-leb, lt-ltb, le-ltb}
 use Rattle.source.specs.declared.table.Move.{Move}
@@ -81,7 +81,7 @@ returns-in-Ok c =
     let k = tables_after h c.store_behind.new.moves new s r.1 c.if-self-ge-TABLES.false c.in-Ok.ensures.stored in
     record {
       answer = a;
-      house = (when_taken H (enter text) _ (ok_taken Reply.Entered (enter_result H rt) h.count refl a)
+      house = (when_taken H (enter text) _ (ok_taken Reply.Entered (enter_result H rt) h.count a)
           (ap (λ (ts : List Listing). record { tables = ts; seats = h.seats })
           (k ∙ ap (λ (x : Result Listing Fault). one_more H.tables x) (sym r.0)))).0;
     }

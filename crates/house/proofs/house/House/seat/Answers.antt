@@ -1,4 +1,4 @@
-use Rattle.std.proofs.Common.{◌≡◌, Ok, Err, refl, ap, ◌∙◌}
+use Rattle.std.proofs.Common.{◌≡◌, Ok, Err, ap, ◌∙◌}
 use Rattle.std.proofs.lemmas.Result.{err_from_is_err_and}
 use Rattle.calls.specs.declared.request.Reply.{Reply}
 use Rattle.calls.specs.Calls.{seat, seat_result}
@@ -22,5 +22,5 @@ returns c =
     let s = c.args.s in
     let k = c.args.c in
     let a : Ok tt ≡ seat_result H s k = c.in_ok-may_seat.ensures in
-    let z = when_taken H (seat s k) (means c.put.new.self) (ok_taken (λ _. Reply.Done) (seat_result H s k) tt refl a) c.put.ensures in
+    let z = when_taken H (seat s k) (means c.put.new.self) (ok_taken (λ _. Reply.Done) (seat_result H s k) tt a) c.put.ensures in
     record { answer = a; house = z.0; history = z.1 }

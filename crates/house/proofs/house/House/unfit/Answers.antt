@@ -38,6 +38,6 @@ returns c =
     let s = c.args.s in
     let q = all_pass (unfit_tests H s) (contract (seat_at H s)) c.in_ok-c.c c.in_ok-c.ensures in
     let a : Ok tt ≡ unfit_result H s = sym (skipped (unfit_tests H s) q.0 Err (Ok tt)) in
-    let z = when_taken H (unfit s) (means c.put.new.self) (ok_taken (λ _. Reply.Done) (unfit_result H s) tt refl a)
+    let z = when_taken H (unfit s) (means c.put.new.self) (ok_taken (λ _. Reply.Done) (unfit_result H s) tt a)
     (c.put.ensures ∙ ap (λ (k : ℕ). with_seat H s (Contract k)) q.1) in
     record { answer = a; house = z.0; history = z.1 }
