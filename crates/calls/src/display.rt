@@ -2,7 +2,7 @@
 
 use crate::refusal::Refusal;
 use judge::verdict::Counterexample;
-use labels::NAMES;
+use labels::VisibleLabel;
 use source::refusal::Refusal as Unjudged;
 use std::fmt;
 
@@ -45,25 +45,20 @@ impl fmt::Display for Failing {
     fn fmt<W: fmt::Write>(&self, f: &mut fmt::Formatter<W>) -> fmt::Result {
         match self.0 {
             Counterexample::Move { label, state } => {
-                write!(f, "the module can do ")?;
-                show_label(label, f)?;
+                let label = VisibleLabel(label);
                 write!(
                     f,
-                    " to its state {state}, and the contract cannot follow (clause 1)"
+                    "the module can do {label} to its state {state}, and the contract cannot follow (clause 1)"
                 )
             }
             Counterexample::Rest {
                 label: Some(label),
                 state,
             } => {
+                let label = VisibleLabel(label);
                 write!(
                     f,
-                    "the module can come to rest in its state {state}, offering "
-                )?;
-                show_label(label, f)?;
-                write!(
-                    f,
-                    ", and the contract nowhere with that and no further offers (clause 2)"
+                    "the module can come to rest in its state {state}, offering {label}, and the contract nowhere with that and no further offers (clause 2)"
                 )
             }
             Counterexample::Rest { label: None, state } => write!(
@@ -71,14 +66,5 @@ impl fmt::Display for Failing {
                 "the module can come to rest in its state {state}, and the contract nowhere without further offers (clause 2)"
             ),
         }
-    }
-}
-
-/// `?` or `!` and the name.
-fn show_label<W: fmt::Write>(label: u8, f: &mut fmt::Formatter<W>) -> fmt::Result {
-    if label < NAMES {
-        write!(f, "?{label}")
-    } else {
-        write!(f, "!{}", label - NAMES)
     }
 }
