@@ -1,7 +1,7 @@
 -- A table that is kept.
-use Rattle.std.proofs.Common.{◌≡◌, ℕ, ◌+◌, ◌<◌, ◌≤◌, Bool, true, false, cond, ◌&&◌, ltb, List, [], ◌∷◌, ◌++◌, map, length, take, drop, set, is_ok, Some, None, Ok, Err, Option, Result, sym, refl, ap, ◌∙◌, subst, subst₂, arith}
-use Rattle.std.proofs.lemmas.List.{drop-take, take-take, take_at, take_more_set, map_push, length-take-le, length-drop, length_push, drop_at, get_or_append_left}
-use Rattle.std.proofs.lemmas.Bool.{and_parts, and_from, leb-true, le-leb, ltb-true, ltb-false, lt-ltb, true≢false}
+use Rattle.std.proofs.Common.{◌≡◌, ℕ, ◌+◌, ◌-◌, ◌<◌, ◌≤◌, Bool, true, false, cond, ◌&&◌, leb, ltb, List, [], ◌∷◌, ◌++◌, map, length, take, drop, is_ok, Some, None, Ok, Err, Option, Result, sym, refl, ap, ◌∙◌, subst, subst₂, arith}
+use Rattle.std.proofs.lemmas.List.{drop-take, take-take, take_at, map_push, length-take-le, length-drop, length_push, drop_at, get_or_append_left}
+use Rattle.std.proofs.lemmas.Bool.{and_parts, and_from, leb-true, le-leb, ltb-true, ltb-false, lt-ltb, lt-leb, le-ltb, true≢false}
 use Rattle.lts.specs.Machines.{Machine}
 use Rattle.lts.specs.Layers.{restrict_machine, parallel_machine}
 use Rattle.source.specs.declared.table.Move.{Move}
@@ -17,6 +17,9 @@ use Rattle.calls.specs.Contents.{machine_of, machine_at, helped, pile_machine, p
 use Rattle.house.specs.Stored.{every, listing, listings, entry_in, taken_up, seat_in, helper_in, judged_yes, Within}
 use Rattle.house.specs.Means.{means}
 use Rattle.house.proofs.Everys.{every_push, every_weaker}
+use Rattle.house.proofs.Tables.{tables_count}
+use Rattle.calls.specs.declared.refusal.Refusal.{Refusal}
+use Rattle.calls.specs.Calls.{enter_result}
 
 -- what a summary tells of the listing
 abbrev pub listed : Summary → List Move → Listing
@@ -26,17 +29,9 @@ abbrev summed : Listing → Summary
 summed t = record { states = t.states; start = t.start; moves = length t.moves }
 
 -- what storing tells
-pub ok_listing : (r : Result Listing Fault) → is_ok r ≡ true → (t : Listing) × (r ≡ Ok t)
+ok_listing : (r : Result Listing Fault) → is_ok r ≡ true → (t : Listing) × (r ≡ Ok t)
 ok_listing (Ok t) e = (t, refl)
 ok_listing (Err f) e = absurd (true≢false (sym e))
-
-pub found_ok : (r : Result Listing Fault) (s : Summary) → Ok s ≡ summary_of r → is_ok r ≡ true
-found_ok (Ok t) s e = refl
-found_ok (Err f) s e = absurd (let z : ◌≡◌ {A = ℕ} 0 1 = cc in omega arith)
-
-pub found_err : (r : Result Listing Fault) (f : Fault) → Err f ≡ summary_of r → r ≡ Err f
-found_err (Ok t) f e = absurd (let z : ◌≡◌ {A = ℕ} 0 1 = cc in omega arith)
-found_err (Err g) f e = cc
 
 pub room_ok : (room : ℕ) (r : Result Listing Fault) (s : Summary) → Ok s ≡ in_room room (summary_of r) →
     (r ≡ Ok (listed s (moves_of r))) × (length (moves_of r) ≡ s.moves) × (s.moves ≤ room)
@@ -54,7 +49,7 @@ room_ok room (Ok t) s e = go (ltb room (length t.moves)) refl e
           subst (λ (n : ℕ). n ≤ room) (sym (ap (λ (x : Summary). x.moves) k)) (ltb-false room (length t.moves) i),
         )
 
-pub room_err : (room : ℕ) (t : Listing) (f : Fault) → Err f ≡ in_room room (summary_of (Ok t)) → (room < length t.moves) × (f ≡ Fault.NoRoom)
+room_err : (room : ℕ) (t : Listing) (f : Fault) → Err f ≡ in_room room (summary_of (Ok t)) → (room < length t.moves) × (f ≡ Fault.NoRoom)
 room_err room t f e = go (ltb room (length t.moves)) refl e
   where
     go : (b : Bool) → ltb room (length t.moves) ≡ b →
@@ -66,7 +61,7 @@ room_err room t f e = go (ltb room (length t.moves)) refl e
 -- the places in use are as they were, and the new moves follow
 module _ (ms ms' new : List Move) (used : ℕ) (within : used ≤ length ms)
     (stored : ms' ≡ take used ms ++ (new ++ drop (length new) (drop used ms))) where
-  pub kept : take used ms' ≡ take used ms
+  kept : take used ms' ≡ take used ms
   kept = ap (take used) stored ∙ take_at (take used ms) (new ++ drop (length new) (drop used ms)) used (length-take-le used ms within)
 
   new_part : take (length new) (drop used ms') ≡ new
@@ -111,10 +106,10 @@ places_are ms used l (e ∷ es) h =
     let n : length (take e.count (drop e.first ms)) ≡ e.count = length-take-le e.count (drop e.first ms) z in
     omega (arith, places_are ms used l es a.1, n)
 
-pub places_used : (h : House) → places (means h).tables ≡ h.used
+places_used : (h : House) → places (means h).tables ≡ h.used
 places_used h =
     let l : h.used ≤ length h.moves = omega arith in
-    places_are h.moves h.used l (take h.count h.entries) h.within.0 ∙ h.within.2
+    places_are h.moves h.used l h.entries.items h.within.0 ∙ h.within.2
 
 -- the seats are in order with one table more
 module _ (ts : List Listing) (t : Listing) where
@@ -141,7 +136,7 @@ module _ (ts : List Listing) (t : Listing) where
   helper_more None e = refl
   helper_more (Some h) e = below h e
 
-  pub seat_more : (x : Seat) → seat_in ts x ≡ true → seat_in (ts ++ (t ∷ [])) x ≡ true
+  seat_more : (x : Seat) → seat_in ts x ≡ true → seat_in (ts ++ (t ∷ [])) x ≡ true
   seat_more Empty e = refl
   seat_more (Contract c) e = below c e
   seat_more (Fitted c p) e =
@@ -159,31 +154,51 @@ module _ (ts : List Listing) (t : Listing) where
 abbrev pub entry_of : ℕ → Summary → Entry
 entry_of used s = record { states = s.states; start = s.start; first = used; count = s.moves }
 
-module _ (h : House) (ms' new : List Move) (s : Summary) (many : length new ≡ s.moves) (less : h.count < 12)
+module _ (h : House) (ms' new : List Move) (s : Summary) (es : List Entry) (many : length new ≡ s.moves)
+    (pushed : es ≡ h.entries.items ++ entry_of h.used s ∷ [])
     (stored : ms' ≡ take h.used h.moves ++ (new ++ drop (length new) (drop h.used h.moves))) where
   long : h.used ≤ length h.moves
   long = omega arith
 
-  pushed : take (h.count + 1) (set h.entries h.count (entry_of h.used s)) ≡ take h.count h.entries ++ entry_of h.used s ∷ []
-  pushed = take_more_set h.entries h.count (entry_of h.used s) (omega arith)
-
-  pub tables_after : listings ms' (set h.entries h.count (entry_of h.used s)) (h.count + 1) ≡ (means h).tables ++ (listed s new ∷ [])
+  pub tables_after : listings ms' es ≡ (means h).tables ++ (listed s new ∷ [])
   tables_after =
-      ap (map (listing ms')) pushed ∙ map_push (listing ms') (take h.count h.entries) (entry_of h.used s)
+      ap (map (listing ms')) pushed ∙ map_push (listing ms') h.entries.items (entry_of h.used s)
       ∙ ap (λ (ts : List Listing). ts ++ listing ms' (entry_of h.used s) ∷ [])
-      (listings_kept h.moves ms' new h.used long stored (take h.count h.entries) h.within.0)
+      (listings_kept h.moves ms' new h.used long stored h.entries.items h.within.0)
       ∙ ap (λ (t : Listing). (means h).tables ++ (t ∷ [])) (its_listing h.moves ms' new h.used long stored (entry_of h.used s) refl (sym many))
 
-  pub within_after : Within ms' (h.used + s.moves) (set h.entries h.count (entry_of h.used s)) (h.count + 1) h.seats
+  pub within_after : Within ms' (h.used + s.moves) es h.seats
   within_after = (
     ap (every (entry_in (h.used + s.moves))) pushed
-        ∙ every_push (entry_in (h.used + s.moves)) (take h.count h.entries) (entry_of h.used s)
-        (every_weaker (entry_in h.used) (entry_in (h.used + s.moves)) wider (take h.count h.entries) h.within.0)
+        ∙ every_push (entry_in (h.used + s.moves)) h.entries.items (entry_of h.used s)
+        (every_weaker (entry_in h.used) (entry_in (h.used + s.moves)) wider h.entries.items h.within.0)
         (le-leb (h.used + s.moves) (h.used + s.moves) (omega arith)),
     subst (λ (ts : List Listing). every (seat_in ts) h.seats ≡ true) (sym tables_after)
         (every_weaker (seat_in (means h).tables) (seat_in ((means h).tables ++ (listed s new ∷ []))) (seat_more (means h).tables (listed s new)) h.seats h.within.1),
-    ap taken_up pushed ∙ taken_up_push (take h.count h.entries) (entry_of h.used s) ∙ ap (λ (n : ℕ). n + s.moves) h.within.2,
+    ap taken_up pushed ∙ taken_up_push h.entries.items (entry_of h.used s) ∙ ap (λ (n : ℕ). n + s.moves) h.within.2,
   )
     where
       wider : (e : Entry) → entry_in h.used e ≡ true → entry_in (h.used + s.moves) e ≡ true
       wider e i = let l : e.first + e.count ≤ h.used = leb-true (e.first + e.count) h.used i in le-leb (e.first + e.count) (h.used + s.moves) (omega arith)
+
+-- there is a place for the table, and room for its moves or none
+module _ (h : House) (r : Result Listing Fault) (places_left : length h.entries.items < 12) where
+  place : leb 12 (length (means h).tables) ≡ false
+  place = lt-leb 12 (length (means h).tables) (omega (arith, tables_count h))
+
+  pub enter_kept : (s : Summary) → Ok s ≡ in_room (length h.moves - h.used) (summary_of r) → Ok (length h.entries.items) ≡ enter_result (means h) r
+  enter_kept s e =
+      let k = room_ok (length h.moves - h.used) r s e in
+      let m : ltb 1024 (places (means h).tables + length (moves_of r)) ≡ false =
+      le-ltb 1024 (places (means h).tables + length (moves_of r)) (omega (arith, places_used h, k.1, k.2)) in
+      let b : Ok (length (means h).tables) ≡ enter_result (means h) (Ok (listed s (moves_of r))) = rw (place, m) in
+      ap Ok (sym (tables_count h)) ∙ b ∙ ap (enter_result (means h)) (sym k.0)
+
+  pub enter_no_room : is_ok r ≡ true → (f : Fault) → Err f ≡ in_room (length h.moves - h.used) (summary_of r) → Err (Refusal.Text f) ≡ enter_result (means h) r
+  enter_no_room o f e =
+      let t = ok_listing r o in
+      let k = room_err (length h.moves - h.used) t.0 f (e ∙ ap (λ (x : Result Listing Fault). in_room (length h.moves - h.used) (summary_of x)) t.1) in
+      let m : ltb 1024 (places (means h).tables + length t.0.moves) ≡ true =
+      lt-ltb 1024 (places (means h).tables + length t.0.moves) (omega (arith, places_used h, k.0)) in
+      let b : Err (Refusal.Text Fault.NoRoom) ≡ enter_result (means h) (Ok t.0) = rw (place, m) in
+      ap (λ (x : Fault). Err (Refusal.Text x)) k.1 ∙ b ∙ ap (enter_result (means h)) (sym t.1)

@@ -12,7 +12,12 @@ use Rattle.judge.specs.Verdicts.{answer, verdict, judged}
 use Rattle.judge.proofs.Refused.{accepts}
 use Rattle.judge.proofs.Promised.{largest_relation, no_yes}
 use Rattle.calls.specs.declared.refusal.Refusal.{Refusal}
-use Rattle.calls.specs.Calls.{lacks_helper, if_yes, yes_or_refused, refused_with}
+use Rattle.calls.specs.declared.seat.Pile.{Pile}
+use Rattle.calls.specs.Seats.{contract}
+use Rattle.calls.specs.Contents.{Contents, seat_at, machine_at, pile_machine}
+use Rattle.calls.specs.Calls.{unless_failed, fit_tests, contract_machine, lacks_helper, if_yes, yes_or_refused, refused_with, RefusedExactly}
+use Rattle.calls.proofs.Taking.{all_pass}
+use Rattle.house.proofs.Lawful.{machine_sound, pile_sound}
 use Rattle.house.specs.Stored.{is_yes, judged_yes, helper_in}
 
 ok_err : {A B : Type 0} (x : A) (e : B) → Ok x ≡ Err e → ⊥
@@ -34,7 +39,7 @@ judged_ok P Q room v e = go (eqb P.size 0) (eqb Q.size 0) (ltb room (total P Q))
     go false false false w e = yes_of w w.answer e
 
 -- where the judge refuses nothing, what is refused is what does not conform
-pub exactly : (P Q : Machine) → Sound P → Sound Q → (room : ℕ) (r : Result Verdict Refusal) → r ≡ yes_or_refused (judged P Q room) →
+exactly : (P Q : Machine) → Sound P → Sound Q → (room : ℕ) (r : Result Verdict Refusal) → r ≡ yes_or_refused (judged P Q room) →
     Fits P → Fits Q → total P Q ≤ room → (refused_with r ≡ 12) ↔ (MachineConforms P Q → ⊥)
 exactly P Q s u room r e f g l =
     subst (λ (x : Result Verdict Refusal). (refused_with x ≡ 12) ↔ (MachineConforms P Q → ⊥))
@@ -46,6 +51,14 @@ exactly P Q s u room r e f g l =
     go : (x : Answer) → answer P Q ≡ x → (refused_with (if_yes (verdict P Q) x) ≡ 12) ↔ (MachineConforms P Q → ⊥)
     go Yes i = ((λ z. absurd (omega arith)), (λ n. absurd (n (conforming.0 i))))
     go (No round c) i = ((λ _ m. no_yes round c (sym i ∙ conforming.1 m)), (λ _. refl))
+
+-- the same of a fit whose tests passed, with the contract that they gave
+pub exactly_on : (H : Contents) (s : ℕ) (p : Pile) (room c : ℕ) (r : Result Verdict Refusal) → Ok c ≡ unless_failed (fit_tests H s p) Err (Ok (contract (seat_at H s))) →
+    r ≡ yes_or_refused (judged (pile_machine H.tables p) (machine_at H.tables c) room) → RefusedExactly H s p room r
+exactly_on H s p room c r t e =
+    let q = all_pass (fit_tests H s p) (contract (seat_at H s)) c t in
+    λ _. exactly (pile_machine H.tables p) (contract_machine H s) (pile_sound H.tables p) (machine_sound H.tables (contract (seat_at H s))) room r
+    (e ∙ ap (λ (k : ℕ). yes_or_refused (judged (pile_machine H.tables p) (machine_at H.tables k) room)) q.1)
 
 pub helper_from : (n : ℕ) (h : Option ℕ) → lacks_helper n h ≡ false → helper_in n h ≡ true
 helper_from n None e = refl

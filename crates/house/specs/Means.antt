@@ -4,4 +4,4 @@ use Rattle.house.specs.Stored.{listings}
 use Rattle.house.specs.declared.house.House.{House}
 
 abbrev pub means : House → Contents
-means h = record { tables = listings h.moves h.entries h.count; seats = h.seats }
+means h = record { tables = listings h.moves h.entries.items; seats = h.seats }

@@ -20,8 +20,8 @@ every f (x ∷ xs) = f x && every f xs
 abbrev pub listing : List Move → Entry → Listing
 listing ms e = record { states = e.states; start = e.start; moves = take e.count (drop e.first ms) }
 
-abbrev pub listings : List Move → List Entry → ℕ → List Listing
-listings ms es count = map (listing ms) (take count es)
+abbrev pub listings : List Move → List Entry → List Listing
+listings ms es = map (listing ms) es
 
 -- the moves of an entry lie among those in use
 abbrev pub entry_in : ℕ → Entry → Bool
@@ -55,11 +55,11 @@ seat_in ts (Fitted c p) =
     && (helper_in (length ts) p.helper
     && judged_yes (pile_machine ts p) (machine_at ts c)))
 
-abbrev pub Wide : List Move → List Entry → List Seat → Type 0
-Wide moves entries seats = (length moves ≡ 1024) × (length entries ≡ 12) × (length seats ≡ 6)
+abbrev pub Wide : List Move → List Seat → Type 0
+Wide moves seats = (length moves ≡ 1024) × (length seats ≡ 6)
 
-abbrev pub Within : List Move → ℕ → List Entry → ℕ → List Seat → Type 0
-Within moves used entries count seats =
-    (every (entry_in used) (take count entries) ≡ true)
-    × (every (seat_in (listings moves entries count)) seats ≡ true)
-    × (taken_up (take count entries) ≡ used)
+abbrev pub Within : List Move → ℕ → List Entry → List Seat → Type 0
+Within moves used entries seats =
+    (every (entry_in used) entries ≡ true)
+    × (every (seat_in (listings moves entries)) seats ≡ true)
+    × (taken_up entries ≡ used)

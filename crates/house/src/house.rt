@@ -1,6 +1,7 @@
 ghost use Rattle.std.specs.Prelude.{◌≤◌};
 ghost use Rattle.house.specs.Stored.{Wide, Within};
 
+use arrayvec::ArrayVec;
 use calls::Seat;
 use source::table::Move;
 
@@ -11,13 +12,13 @@ mod seating;
 mod testing;
 
 /// No house has more tables.
-const TABLES: u8 = 12;
+const TABLES: usize = 12;
 
 /// No house has another number of seats.
 const SEATS: u8 = 6;
 
 /// A table's states and start, and the places of its moves.
-#[derive(Clone, Copy)]
+#[derive(Clone, Copy, Default)]
 struct Entry {
     states: u8,
     start: u8,
@@ -28,12 +29,12 @@ struct Entry {
 /// Tables, and seats with contracts and with what is fitted to them. Each pile that is fitted conforms to its contract.
 #[derive(Drop)]
 pub struct House {
+    // An array with a count of what is in use: the reader writes into the free places, and an `ArrayVec` lends none.
     moves: [Move; 1024],
     used: u16,
-    entries: [Entry; 12],
-    count: u8,
+    entries: ArrayVec<Entry, TABLES>,
     seats: [Seat; 6],
-    ghost wide: { Wide moves entries seats },
-    ghost few: { (used ≤ 1024) × (count ≤ 12) },
-    ghost within: { Within moves used entries count seats },
+    ghost wide: { Wide moves seats },
+    ghost few: { used ≤ 1024 },
+    ghost within: { Within moves used entries.items seats },
 }

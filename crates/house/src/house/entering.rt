@@ -4,7 +4,7 @@ ghost use Rattle.calls.specs.Calls.{enter, enter_result, after};
 ghost use Rattle.calls.specs.Histories.{GoesOn};
 ghost use Rattle.house.specs.Means.{means};
 
-use crate::house::{Entry, House, TABLES};
+use crate::house::{Entry, House};
 use calls::Refusal;
 use source::table::Move;
 use table::{Checked, Fault, Summary};
@@ -25,25 +25,21 @@ impl House {
         ensures answer { result ≡ enter_result (means self.old) (read_text checked.now.text.now) }
         ensures house { means self.new ≡ after (means self.old) (enter checked.now.text.now) }
     {
-        if self.count >= TABLES {
+        if self.entries.is_full() {
             return Err(Refusal::NoPlace);
         }
-        match store_behind(&mut self.moves, self.used as usize, checked) {
-            Ok(summary) => {
-                let number = self.count;
-                let count = summary.moves as u16;
-                self.entries[number as usize] = Entry {
-                    states: summary.states,
-                    start: summary.start,
-                    first: self.used,
-                    count,
-                };
-                self.used += count;
-                self.count += 1;
-                Ok(number)
-            }
-            Err(fault) => Err(Refusal::Text(fault)),
-        }
+        let summary = store_behind(&mut self.moves, self.used as usize, checked)?;
+        let number = self.entries.len() as u8;
+        let count = summary.moves as u16;
+        let entry = Entry {
+            states: summary.states,
+            start: summary.start,
+            first: self.used,
+            count,
+        };
+        self.entries.push(entry);
+        self.used += count;
+        Ok(number)
     }
 
     /// Reads a text, and answers the number of its table, counted from 0.
@@ -53,9 +49,7 @@ impl House {
         ensures history { GoesOn (means self.old) (enter text.now) (means self.new) }
     {
         let checked = table::check(text);
-        match checked.found() {
-            Ok(_) => self.keep(&checked),
-            Err(fault) => Err(Refusal::Text(fault)),
-        }
+        checked.found()?;
+        self.keep(&checked)
     }
 }

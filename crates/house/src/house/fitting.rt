@@ -25,18 +25,16 @@ fn judge_yes<P: Source, Q: Source>(
     ensures value { result ≡ yes_or_refused (judged (P.Source.means «module».now) (Q.Source.means contract.now) (length workspace.old)) }
     ensures workspace { workspace.new ≡ workspace_after (P.Source.means «module».now) (Q.Source.means contract.now) workspace.old }
 {
-    match judge::<EveryPair, P, Q>(module, contract, workspace) {
-        Ok(verdict) => match verdict.answer {
-            Answer::Yes => Ok(verdict),
-            Answer::No {
-                round,
-                counterexample,
-            } => Err(Refusal::DoesNotConform {
-                round,
-                counterexample,
-            }),
-        },
-        Err(refusal) => Err(Refusal::Unjudged(refusal)),
+    let verdict = judge::<EveryPair, P, Q>(module, contract, workspace)?;
+    match verdict.answer {
+        Answer::Yes => Ok(verdict),
+        Answer::No {
+            round,
+            counterexample,
+        } => Err(Refusal::DoesNotConform {
+            round,
+            counterexample,
+        }),
     }
 }
 

@@ -6,6 +6,7 @@ ghost use Rattle.house.specs.Stored.{seat_in, listing};
 ghost use Rattle.house.specs.Means.{means};
 
 use crate::house::{Entry, House, SEATS};
+use arrayvec::ArrayVec;
 use calls::Seat;
 use lts::systems::System;
 use source::table::{Move, Table};
@@ -16,19 +17,9 @@ impl House {
         ensures { means result ≡ empty_house }
     {
         House {
-            moves: [Move {
-                from: 0,
-                label: 0,
-                to: 0,
-            }; 1024],
+            moves: [Move::default(); 1024],
             used: 0,
-            entries: [Entry {
-                states: 0,
-                start: 0,
-                first: 0,
-                count: 0,
-            }; 12],
-            count: 0,
+            entries: ArrayVec::new(),
             seats: [Seat::Empty; 6],
         }
     }
@@ -81,7 +72,7 @@ impl House {
     pub(crate) fn lacks(&self, c: u8) -> bool
         ensures { result ≡ nat_le (length (means self.now).tables) c }
     {
-        c >= self.count
+        c as usize >= self.entries.len()
     }
 
     /// Puts `x` on seat `s`.

@@ -35,7 +35,7 @@ impl House {
         ensures house { means self.new ≡ after (means self.old) (clear s) }
         ensures history { GoesOn (means self.old) (clear s) (means self.new) }
     {
-        self.may_clear(s)?;
+        self.contract_on(s)?;
         self.put(s, Seat::Empty);
         Ok(())
     }
