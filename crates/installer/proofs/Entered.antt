@@ -1,51 +1,22 @@
--- What is stored of a text is its machine.
-use Rattle.std.proofs.Common.{◌≡◌, ℕ, ◌<◌, ◌≤◌, true, false, ltb, List, ◌++◌, length, take, drop, Ok, Err, Result, sym, refl, ap, ◌∙◌, ⊎_elim, arith, length-append}
-use Rattle.std.proofs.lemmas.List.{take_at}
-use Rattle.std.proofs.lemmas.Bool.{cases_Bool, cond-true, cond-false, and_from, lt-ltb, le-leb}
+-- What a text is entered as.
+use Rattle.std.proofs.Common.{◌≡◌, ℕ, ◌<◌, true, false, ltb, List, length, is_ok, Ok, Err, Result, sym, refl, ap, ◌∙◌, ⊎_elim, arith}
+use Rattle.std.proofs.lemmas.Bool.{cases_Bool, cond-true, cond-false, and_from, lt-ltb, le-leb, true≢false}
 use Rattle.lts.specs.Machines.{Machine, Fits}
-use Rattle.source.specs.declared.table.Move.{Move}
-use Rattle.source.specs.Tables.{table_machine, table_size}
+use Rattle.source.specs.Tables.{table_size}
 use Rattle.table.specs.declared.checked.Summary.{Summary}
 use Rattle.table.specs.declared.fault.Fault.{Fault}
 use Rattle.table.specs.Fault.{line_of}
-use Rattle.table.specs.Table.{Listing, read_text, summary_of, moves_of, in_room}
-use Rattle.table.proofs.Results.{no_err, no_ok, same_fault}
+use Rattle.table.specs.Table.{Listing, read_text, summary_of, in_room}
+use Rattle.table.proofs.Results.{no_err, same_fault}
 use Rattle.table.proofs.Law.{reads_what_is_written}
+use Rattle.source.specs.declared.table.Table.{Table}
 use Rattle.ranks.specs.Filled.{workspace_after}
-use Rattle.judge.specs.Verdicts.{judged}
-use Rattle.installer.specs.Outcomes.{entered, machine_by, machine_of, faulty, told, outcome_by, outcome, if_both, worked_on, TablesFit}
+use Rattle.installer.specs.Outcomes.{means, Enters, machine_of, if_both, worked_on, entered, machine_by, TablesFit}
 use Rattle.installer.proofs.Bounds.{read_line_small}
 
 -- the summary of a listing
 abbrev summary : Listing → Summary
 summary t = record { states = t.states; start = t.start; moves = length t.moves }
-
-ok_same : (x y : Summary) → ◌≡◌ {A = Result Summary Fault} (Ok x) (Ok y) → x ≡ y
-ok_same x y e = cc
-
--- a text that has room is what it says
-in_room_ok : (room : ℕ) (s h : Summary) → Ok s ≡ in_room room (Ok h) → s ≡ h
-in_room_ok room s h e = ⊎_elim
-    (λ (t : ltb room h.moves ≡ true). no_ok Fault.NoRoom s (e ∙ cond-true (ltb room h.moves) (Err Fault.NoRoom) (Ok h) t))
-    (λ (t : ltb room h.moves ≡ false). ok_same s h (e ∙ cond-false (ltb room h.moves) (Err Fault.NoRoom) (Ok h) t))
-    (cases_Bool (ltb room h.moves))
-
--- the moves that are stored are those of the machine
-stored_by : (r : Result Listing Fault) (room : ℕ) (s : Summary) (was stored : List Move) → Ok s ≡ in_room room (summary_of r) →
-    stored ≡ moves_of r ++ drop (length (moves_of r)) was → (s.moves ≤ length stored) × (table_machine s.states s.start (take s.moves stored) ≡ machine_by r)
-stored_by (Ok t) room s was stored e f =
-    let h = in_room_ok room s (summary t) e in
-    let tail = drop (length t.moves) was in (
-      omega (arith, ap (λ (x : Summary). x.moves) h, ap length f, length-append t.moves tail),
-      ap (λ (x : Summary). table_machine x.states x.start (take x.moves stored)) h
-          ∙ ap (λ (xs : List Move). table_machine t.states t.start xs) (ap (take (length t.moves)) f ∙ take_at t.moves tail (length t.moves) refl),
-    )
-stored_by (Err g) room s was stored e f = no_ok g s e
-
-pub stored_machine : (text : List ℕ) (room : ℕ) (s : Summary) (was stored : List Move) → Ok s ≡ in_room room (summary_of (read_text text)) →
-    stored ≡ moves_of (read_text text) ++ drop (length (moves_of (read_text text))) was →
-    (s.moves ≤ length stored) × (table_machine s.states s.start (take s.moves stored) ≡ machine_of text)
-stored_machine text = stored_by (read_text text)
 
 -- the fault of a text is in one of its lines
 fault_small : (text : List ℕ) (r : Result Listing Fault) (f : Fault) → read_text text ≡ r → Err f ≡ in_room 1024 (summary_of r) → line_of f < 65536
@@ -71,29 +42,13 @@ fits_by text (Ok t) s e h =
 pub tables_fit : (text : List ℕ) → TablesFit text
 tables_fit text s e = fits_by text (read_text text) s refl e
 
--- what comes of two texts: the first is refused, or the second, or both are read
-module _ (a b : List ℕ) (room : ℕ) (was : List ℕ) where
-  pub first_refused : (f : Fault) → Err f ≡ entered a → (faulty 1 f ≡ outcome a b room) × (was ≡ worked_on a b was)
-  first_refused f e = (
-    ap (λ (x : Result Summary Fault). outcome_by x (entered b) (judged (machine_of a) (machine_of b) room)) e,
-    ap (λ (x : Result Summary Fault). if_both x (entered b) (workspace_after (machine_of a) (machine_of b) was) was) e,
-  )
+-- where both texts are read, the judge fills the workspace
+if_read : {A : Type 0} (x y : Result Summary Fault) (u v : A) → is_ok x ≡ true → is_ok y ≡ true → u ≡ if_both x y u v
+if_read (Ok s) (Ok t) u v p q = refl
+if_read (Err f) y u v p q = absurd (true≢false (sym p))
+if_read (Ok s) (Err f) u v p q = absurd (true≢false (sym q))
 
-  pub second_refused : (s : Summary) (f : Fault) → Ok s ≡ entered a → Err f ≡ entered b → (faulty 2 f ≡ outcome a b room) × (was ≡ worked_on a b was)
-  second_refused s f d e = (
-    ap (λ (y : Result Summary Fault). outcome_by (Ok s) y (judged (machine_of a) (machine_of b) room)) e
-        ∙ ap (λ (x : Result Summary Fault). outcome_by x (entered b) (judged (machine_of a) (machine_of b) room)) d,
-    ap (λ (y : Result Summary Fault). if_both (Ok s) y (workspace_after (machine_of a) (machine_of b) was) was) e
-        ∙ ap (λ (x : Result Summary Fault). if_both x (entered b) (workspace_after (machine_of a) (machine_of b) was) was) d,
-  )
-
-  pub both_read : (s t : Summary) (M N : Machine) → Ok s ≡ entered a → Ok t ≡ entered b → M ≡ machine_of a → N ≡ machine_of b →
-      (told (judged M N room) ≡ outcome a b room) × (workspace_after M N was ≡ worked_on a b was)
-  both_read s t M N d e m n = (
-    ap (λ (X : Machine). told (judged X N room)) m ∙ ap (λ (X : Machine). told (judged (machine_of a) X room)) n
-        ∙ ap (λ (y : Result Summary Fault). outcome_by (Ok s) y (judged (machine_of a) (machine_of b) room)) e
-        ∙ ap (λ (x : Result Summary Fault). outcome_by x (entered b) (judged (machine_of a) (machine_of b) room)) d,
-    ap (λ (X : Machine). workspace_after X N was) m ∙ ap (λ (X : Machine). workspace_after (machine_of a) X was) n
-        ∙ ap (λ (y : Result Summary Fault). if_both (Ok s) y (workspace_after (machine_of a) (machine_of b) was) was) e
-        ∙ ap (λ (x : Result Summary Fault). if_both x (entered b) (workspace_after (machine_of a) (machine_of b) was) was) d,
-  )
+pub both_entered : (a b was : List ℕ) (t u : Table) → Enters 1 a (Ok t) → Enters 2 b (Ok u) → workspace_after (means t) (means u) was ≡ worked_on a b was
+both_entered a b was t u p q =
+    ap (λ (M : Machine). workspace_after M (means u) was) p.1 ∙ ap (λ (N : Machine). workspace_after (machine_of a) N was) q.1
+    ∙ if_read (entered a) (entered b) (workspace_after (machine_of a) (machine_of b) was) was p.0 q.0

@@ -1,7 +1,8 @@
 -- Fields that are put together one after another.
-use Rattle.std.proofs.Common.{◌≡◌, ℕ, ◌-◌, ◌<◌, ◌≤◌, cond, ltb, List, [], ◌∷◌, ◌++◌, Some, None, codes, Option, sym, refl, ap, ◌∙◌, append_assoc}
+use Rattle.std.proofs.Common.{◌≡◌, ℕ, zero, suc, ◌-◌, ◌<◌, ◌≤◌, cond, ltb, List, [], ◌∷◌, ◌++◌, length, take, Some, None, codes, Option, sym, refl, ap, ◌∙◌, append_assoc}
 use Rattle.std.proofs.lemmas.Bool.{lt-ltb, le-ltb, cond-true, cond-false}
-use Rattle.table.specs.Write.{parted}
+use Rattle.std.proofs.lemmas.List.{take_all}
+use Rattle.table.specs.Write.{parted, written_line}
 use Rattle.clauses.specs.declared.counterexample.Counterexample.{Counterexample}
 use Rattle.clauses.specs.declared.counterexample.Counterexample.TheVariants.{Move, Rest}
 use Rattle.judge.specs.declared.verdict.Answer.TheVariants.{No}
@@ -9,21 +10,32 @@ use Rattle.judge.specs.declared.verdict.Verdict.{Verdict}
 use Rattle.installer.specs.Figures.{figure}
 use Rattle.installer.specs.Lines.{way_field, name_field, label_fields, failing_fields, answer_fields}
 
--- two, three and four parts behind what there is
-pub two : {u v : List ℕ} (t x y : List ℕ) → u ≡ t ++ x → v ≡ u ++ y → v ≡ t ++ (x ++ y)
-two t x y e f = f ∙ ap (λ (z : List ℕ). z ++ y) e ∙ append_assoc t x y
+-- what was cut short before more came is cut short after it
+take_grown : {X : Type 0} (n : ℕ) (xs ys : List X) → take n (take n xs ++ ys) ≡ take n (xs ++ ys)
+take_grown zero xs ys = refl
+take_grown (suc n) [] ys = refl
+take_grown (suc n) (x ∷ xs) ys = ap (λ (zs : List _). x ∷ zs) (take_grown n xs ys)
 
-pub three : {u v w : List ℕ} (t x y z : List ℕ) → u ≡ t ++ x → v ≡ u ++ y → w ≡ v ++ z → w ≡ t ++ (x ++ (y ++ z))
+-- two, three and four parts behind what there is
+pub two : {u v : List ℕ} (t x y : List ℕ) → u ≡ take 40 (t ++ x) → v ≡ take 40 (u ++ y) → v ≡ take 40 (t ++ (x ++ y))
+two t x y e f = f ∙ ap (λ (z : List ℕ). take 40 (z ++ y)) e ∙ take_grown 40 (t ++ x) y ∙ ap (take 40) (append_assoc t x y)
+
+pub three : {u v w : List ℕ} (t x y z : List ℕ) → u ≡ take 40 (t ++ x) → v ≡ take 40 (u ++ y) → w ≡ take 40 (v ++ z) → w ≡ take 40 (t ++ (x ++ (y ++ z)))
 three {u = u} t x y z e f g = two t x (y ++ z) e (two u y z f g)
 
-pub four : {u v w r : List ℕ} (t x y z s : List ℕ) → u ≡ t ++ x → v ≡ u ++ y → w ≡ v ++ z → r ≡ w ++ s → r ≡ t ++ (x ++ (y ++ (z ++ s)))
+pub four : {u v w r : List ℕ} (t x y z s : List ℕ) → u ≡ take 40 (t ++ x) → v ≡ take 40 (u ++ y) → w ≡ take 40 (v ++ z) → r ≡ take 40 (w ++ s) →
+    r ≡ take 40 (t ++ (x ++ (y ++ (z ++ s))))
 four {u = u} t x y z s e f g h = two t x (y ++ (z ++ s)) e (three u y z s f g h)
 
 -- four fields behind a word
-pub fields : {t u v w r : List ℕ} (word a b c d : List ℕ) → t ≡ word → u ≡ t ++ 44 ∷ a → v ≡ u ++ 44 ∷ b → w ≡ v ++ 44 ∷ c → r ≡ w ++ 44 ∷ d →
-    r ≡ word ++ 44 ∷ (a ++ 44 ∷ (b ++ 44 ∷ (c ++ 44 ∷ d)))
+pub fields : {t u v w r : List ℕ} (word a b c d : List ℕ) → t ≡ word → u ≡ take 40 (t ++ 44 ∷ a) → v ≡ take 40 (u ++ 44 ∷ b) → w ≡ take 40 (v ++ 44 ∷ c) →
+    r ≡ take 40 (w ++ 44 ∷ d) → r ≡ take 40 (word ++ 44 ∷ (a ++ 44 ∷ (b ++ 44 ∷ (c ++ 44 ∷ d))))
 fields {t = t} word a b c d i e f g h =
-    four t (44 ∷ a) (44 ∷ b) (44 ∷ c) (44 ∷ d) e f g h ∙ ap (λ (z : List ℕ). z ++ 44 ∷ (a ++ 44 ∷ (b ++ 44 ∷ (c ++ 44 ∷ d)))) i
+    four t (44 ∷ a) (44 ∷ b) (44 ∷ c) (44 ∷ d) e f g h ∙ ap (λ (z : List ℕ). take 40 (z ++ 44 ∷ (a ++ 44 ∷ (b ++ 44 ∷ (c ++ 44 ∷ d))))) i
+
+-- the line feed behind the fields of a line that has room
+pub ended : {t u : List ℕ} (fs : List (List ℕ)) → length (written_line fs) ≤ 40 → t ≡ take 40 (parted 44 fs) → u ≡ take 40 (t ++ 10 ∷ []) → u ≡ written_line fs
+ended fs l e f = two [] (parted 44 fs) (10 ∷ []) e f ∙ take_all 40 (written_line fs) l
 
 pub receives : (l : ℕ) (label : Option ℕ) → label ≡ Some l → l < 32 → 63 ∷ 44 ∷ figure l ≡ parted 44 (label_fields label)
 receives l label e h =

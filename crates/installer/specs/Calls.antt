@@ -1,11 +1,12 @@
 -- What the two calls answer, and what they leave in the buffers.
-use Rattle.std.specs.Prelude.{ℕ, cond, List, length, nat_lt}
+use Rattle.std.specs.Prelude.{ℕ, cond, List, length, Err, Result, nat_lt}
 use Rattle.table.specs.Table.{longest}
 use Rattle.judge.specs.Promises.{FindsTheLargest, ContextKeepsYes, CounterexampleFails}
-use Rattle.installer.specs.declared.outcome.Outcome.TheVariants.{Refused}
+use Rattle.judge.specs.declared.verdict.Verdict.{Verdict}
+use Rattle.installer.specs.declared.outcome.Refused.{Refused}
 use Rattle.installer.specs.Texts.{put_on}
 use Rattle.installer.specs.Outcomes.{machine_of, outcome, worked_on, TablesFit, TellsConformance}
-use Rattle.installer.specs.Lines.{line_of}
+use Rattle.installer.specs.Lines.{line_of, Small}
 use Rattle.installer.specs.Inputs.{first_text, second_text}
 
 -- no line is longer
@@ -31,9 +32,13 @@ line_for actual promised room = line_of (outcome actual promised room)
 abbrev pub if_short : {A : Type 0} → List ℕ → A → A → A
 if_short input a b = cond (nat_lt longest (length input)) b a
 
+-- an input that is too long is refused with 4, as neither text
+abbrev pub too_long : Result Verdict Refused
+too_long = Err (record { number = 4; text = 0; line = 0; field = 0 })
+
 -- the line on one input that holds both
 abbrev pub line_for_input : List ℕ → ℕ → List ℕ
-line_for_input input room = if_short input (line_for (first_text input) (second_text input) room) (line_of (Refused 4 0 0 0))
+line_for_input input room = if_short input (line_for (first_text input) (second_text input) room) (line_of too_long)
 
 abbrev pub worked_on_input : List ℕ → List ℕ → List ℕ
 worked_on_input input was = if_short input (worked_on (first_text input) (second_text input) was) was
@@ -41,6 +46,7 @@ worked_on_input input was = if_short input (worked_on (first_text input) (second
 -- what a verdict on the machines of two texts promises
 pub record VerdictPromises (actual promised : List ℕ) (room : ℕ) : Type 0 where
   pub conformance : TellsConformance actual promised room
+  pub small : Small (outcome actual promised room)
   pub largest : FindsTheLargest (machine_of actual) (machine_of promised) (λ p q. Unit {0})
   pub contexts : ContextKeepsYes (machine_of actual) (machine_of promised) room
   pub counterexample : CounterexampleFails (machine_of actual) (machine_of promised)

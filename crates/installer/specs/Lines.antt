@@ -1,13 +1,12 @@
 -- The line of an outcome.
-use Rattle.std.specs.Prelude.{ℕ, ◌-◌, ◌<◌, cond, List, [], ◌∷◌, ◌++◌, Some, None, codes, Option, nat_lt}
+use Rattle.std.specs.Prelude.{ℕ, ◌-◌, ◌<◌, cond, List, [], ◌∷◌, ◌++◌, Some, None, codes, Option, Ok, Err, Result, nat_lt}
 use Rattle.table.specs.Write.{written_line}
 use Rattle.clauses.specs.declared.counterexample.Counterexample.{Counterexample}
 use Rattle.clauses.specs.declared.counterexample.Counterexample.TheVariants.{Move, Rest}
 use Rattle.judge.specs.declared.verdict.Answer.{Answer}
 use Rattle.judge.specs.declared.verdict.Answer.TheVariants.{Yes, No}
 use Rattle.judge.specs.declared.verdict.Verdict.{Verdict}
-use Rattle.installer.specs.declared.outcome.Outcome.{Outcome}
-use Rattle.installer.specs.declared.outcome.Outcome.TheVariants.{Judged, Refused}
+use Rattle.installer.specs.declared.outcome.Refused.{Refused}
 use Rattle.installer.specs.Figures.{figure}
 
 -- a label below 32 receives on that name, any other sends on the name that is 32 less
@@ -31,13 +30,13 @@ abbrev pub answer_fields : Verdict → Answer → List (List ℕ)
 answer_fields v Yes = codes "yes" ∷ figure v.states ∷ figure v.others ∷ figure v.highest ∷ figure v.standing ∷ []
 answer_fields v (No round c) = codes "no" ∷ figure v.states ∷ figure v.others ∷ figure round ∷ failing_fields c
 
-abbrev pub refusal_fields : ℕ → ℕ → ℕ → ℕ → List (List ℕ)
-refusal_fields number text line field = codes "refused" ∷ figure number ∷ figure text ∷ figure line ∷ figure field ∷ []
+abbrev pub refusal_fields : Refused → List (List ℕ)
+refusal_fields r = codes "refused" ∷ figure r.number ∷ figure r.text ∷ figure r.line ∷ figure r.field ∷ []
 
 -- fields with commas between them, and a line feed
-abbrev pub line_of : Outcome → List ℕ
-line_of (Judged v) = written_line (answer_fields v v.answer)
-line_of (Refused number text line field) = written_line (refusal_fields number text line field)
+abbrev pub line_of : Result Verdict Refused → List ℕ
+line_of (Ok v) = written_line (answer_fields v v.answer)
+line_of (Err r) = written_line (refusal_fields r)
 
 abbrev pub state_of : Counterexample → ℕ
 state_of (Move l p) = p
@@ -51,6 +50,6 @@ abbrev pub SmallVerdict : Verdict → Type 0
 SmallVerdict v = (v.states < 65536) × (v.others < 65536) × SmallAnswer v.answer
 
 -- an outcome whose numbers have at most five digits
-abbrev pub Small : Outcome → Type 0
-Small (Judged v) = SmallVerdict v
-Small (Refused number text line field) = line < 65536
+abbrev pub Small : Result Verdict Refused → Type 0
+Small (Ok v) = SmallVerdict v
+Small (Err r) = r.line < 65536

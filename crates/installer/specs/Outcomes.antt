@@ -1,5 +1,5 @@
 -- What comes of two texts.
-use Rattle.std.specs.Prelude.{◌≡◌, ℕ, ◌≤◌, ◌↔◌, List, [], Ok, Err, Result}
+use Rattle.std.specs.Prelude.{◌≡◌, ℕ, ◌≤◌, true, ◌↔◌, List, [], is_ok, Ok, Err, Result}
 use Rattle.lts.specs.Machines.{Machine, Fits}
 use Rattle.lts.specs.Conformance.{MachineConforms}
 use Rattle.source.specs.Tables.{table_machine}
@@ -14,8 +14,7 @@ use Rattle.ranks.specs.Filled.{total, workspace_after}
 use Rattle.judge.specs.declared.verdict.Answer.TheVariants.{Yes}
 use Rattle.judge.specs.declared.verdict.Verdict.{Verdict}
 use Rattle.judge.specs.Verdicts.{judged}
-use Rattle.installer.specs.declared.outcome.Outcome.{Outcome}
-use Rattle.installer.specs.declared.outcome.Outcome.TheVariants.{Judged, Refused}
+use Rattle.installer.specs.declared.outcome.Refused.{Refused}
 
 -- what a text is found to be, with room for 1,024 moves of its own
 abbrev pub entered : List ℕ → Result Summary Fault
@@ -34,21 +33,30 @@ abbrev pub machine_of : List ℕ → Machine
 machine_of text = machine_by (read_text text)
 
 -- a text that is refused, as the first or the second of two
-abbrev pub faulty : ℕ → Fault → Outcome
-faulty text f = Refused (fault_number f) text (line_of f) (field_of f)
+abbrev pub faulty : ℕ → Fault → Refused
+faulty text f = record { number = fault_number f; text = text; line = line_of f; field = field_of f }
+
+-- what a text is entered as: the table that means its machine, or the fault of the first text or the second
+abbrev pub Enters : ℕ → List ℕ → Result Table Refused → Type 0
+Enters text bytes (Ok t) = (is_ok (entered bytes) ≡ true) × (means t ≡ machine_of bytes)
+Enters text bytes (Err e) = (f : Fault) × (Err f ≡ entered bytes) × (e ≡ faulty text f)
+
+-- what the judge refuses is in neither text
+abbrev pub unjudged : Refusal → Refused
+unjudged r = record { number = number r; text = 0; line = 0; field = 0 }
 
 -- what the judge answers
-abbrev pub told : Result Verdict Refusal → Outcome
-told (Ok v) = Judged v
-told (Err r) = Refused (number r) 0 0 0
+abbrev pub told : Result Verdict Refusal → Result Verdict Refused
+told (Ok v) = Ok v
+told (Err r) = Err (unjudged r)
 
 -- the first text is tested wholly before the second, and both before they are judged
-abbrev pub outcome_by : Result Summary Fault → Result Summary Fault → Result Verdict Refusal → Outcome
-outcome_by (Err f) y z = faulty 1 f
-outcome_by (Ok s) (Err f) z = faulty 2 f
+abbrev pub outcome_by : Result Summary Fault → Result Summary Fault → Result Verdict Refusal → Result Verdict Refused
+outcome_by (Err f) y z = Err (faulty 1 f)
+outcome_by (Ok s) (Err f) z = Err (faulty 2 f)
 outcome_by (Ok s) (Ok t) z = told z
 
-abbrev pub outcome : List ℕ → List ℕ → ℕ → Outcome
+abbrev pub outcome : List ℕ → List ℕ → ℕ → Result Verdict Refused
 outcome actual promised room = outcome_by (entered actual) (entered promised) (judged (machine_of actual) (machine_of promised) room)
 
 -- the one where both texts are tables, and else the other
@@ -68,4 +76,4 @@ TablesFit text = (s : Summary) → entered text ≡ Ok s → Fits (machine_of te
 -- two tables with room enough are judged, and the answer is yes exactly when the first conforms to the second
 abbrev pub TellsConformance : List ℕ → List ℕ → ℕ → Type 0
 TellsConformance actual promised room = (s t : Summary) → entered actual ≡ Ok s → entered promised ≡ Ok t → total (machine_of actual) (machine_of promised) ≤ room →
-    (v : Verdict) × (outcome actual promised room ≡ Judged v) × ((v.answer ≡ Yes) ↔ MachineConforms (machine_of actual) (machine_of promised))
+    (v : Verdict) × (outcome actual promised room ≡ Ok v) × ((v.answer ≡ Yes) ↔ MachineConforms (machine_of actual) (machine_of promised))

@@ -4,7 +4,11 @@ use Rattle.installer.specs.declared.text.Text.{Text}
 
 -- what is put together so far
 abbrev pub text_of : Text → List ℕ
-text_of t = take t.len t.bytes
+text_of t = t.bytes.items
+
+-- with bytes behind it, as far as there is room
+abbrev pub grown : Text → List ℕ → List ℕ
+grown t xs = take 40 (text_of t ++ xs)
 
 -- bytes at the front of a buffer, and later bytes as they were
 abbrev pub put_on : List ℕ → List ℕ → List ℕ

@@ -1,16 +1,16 @@
-ghost use Rattle.std.specs.Prelude.{◌≡◌, ◌≤◌, length};
+ghost use Rattle.std.specs.Prelude.{◌≡◌, ◌≤◌, length, drop};
 ghost use Rattle.installer.specs.Calls.{with_room, length_told, line_after, line_for_input, worked_on_input, VerdictPromises};
 ghost use Rattle.installer.specs.Cases.{WorkedCases};
 ghost use Rattle.installer.specs.Inputs.{gap, first_text, second_text, FirstGap};
 
 use crate::calls::verdict_line;
 use crate::line::line_of;
-use crate::outcome::Outcome;
+use crate::outcome::Refused;
 use crate::text::LINE_ROOM;
 use table::LONGEST;
 
 /// What an input that is too long is refused with.
-const TOO_LONG: Outcome = Outcome::Refused {
+const TOO_LONG: Refused = Refused {
     number: 4,
     text: 0,
     line: 0,
@@ -33,15 +33,13 @@ fn empty_line(input: &[u8]) -> usize
     input.len()
 }
 
-/// What stands behind an empty line, if it is not the input's end.
-fn behind(input: &[u8], at: usize) -> &[u8]
-    requires { at ≡ gap input.now }
-    ensures { result.now ≡ second_text input.now }
+/// What stands behind an empty line, with which `rest` begins if it is not the input's end.
+fn behind(rest: &[u8]) -> &[u8]
+    ensures { result.now ≡ drop 1 rest.now }
 {
-    if at < input.len() {
-        &input[at + 1..]
-    } else {
-        &[]
+    match rest {
+        [] => &[],
+        [_, behind @ ..] => behind,
     }
 }
 
@@ -60,9 +58,8 @@ pub fn verdict_line_of_input(input: &[u8], workspace: &mut [u8], line: &mut [u8]
         return 0;
     }
     if input.len() > LONGEST {
-        return line_of(TOO_LONG).put(line);
+        return line_of(Err(TOO_LONG)).put(line);
     }
-    let gap = empty_line(input);
-    let module = &input[0..gap];
-    verdict_line(module, behind(input, gap), workspace, line)
+    let (module, rest) = input.split_at(empty_line(input));
+    verdict_line(module, behind(rest), workspace, line)
 }

@@ -1,14 +1,42 @@
-use judge::verdict::Verdict;
+ghost use Rattle.std.specs.Prelude.{◌≡◌};
+ghost use Rattle.installer.specs.Outcomes.{faulty, unjudged};
 
-/// What comes of two texts.
-#[derive(Clone, Copy)]
-pub(crate) enum Outcome {
-    Judged(Verdict),
-    /// The refusal's number, the text it is about (1 or 2), its line and its field; 0 where nothing applies.
-    Refused {
-        number: u8,
-        text: u8,
-        line: usize,
-        field: u8,
-    },
+use source::refusal::Refusal;
+use table::Fault;
+
+/// Why there is no verdict: the refusal's number, the text it is about (1 or 2), its line and its field; 0 where nothing
+/// applies, as the line has it.
+#[derive(Clone, Copy, PartialEq, Eq, Debug)]
+pub(crate) struct Refused {
+    pub(crate) number: u8,
+    pub(crate) text: u8,
+    pub(crate) line: usize,
+    pub(crate) field: u8,
+}
+
+impl Refused {
+    /// The fault of the first text or the second.
+    pub(crate) fn faulty(text: u8, fault: Fault) -> Refused
+        ensures { result ≡ faulty text fault }
+    {
+        Refused {
+            number: fault.number(),
+            text,
+            line: fault.line(),
+            field: fault.field(),
+        }
+    }
+}
+
+impl From<Refusal> for Refused {
+    ghost from_gives = { λ refusal r. r ≡ unjudged refusal };
+
+    fn from(refusal: Refusal) -> Refused {
+        Refused {
+            number: refusal.number(),
+            text: 0,
+            line: 0,
+            field: 0,
+        }
+    }
 }

@@ -1,72 +1,74 @@
-ghost use Rattle.std.specs.Prelude.{◌≡◌, ◌+◌, ◌<◌, ◌≤◌, [], ◌∷◌, ◌++◌, length, decimal};
-ghost use Rattle.installer.specs.Figures.{figure};
-ghost use Rattle.installer.specs.Texts.{text_of, put_on};
+ghost use Rattle.std.specs.Prelude.{◌≡◌, ◌≤◌, length};
+
+use arrayvec::ArrayVec;
 
 /// A line buffer has at least so many bytes, and no line is longer.
 pub const LINE_ROOM: usize = 40;
 
-/// Bytes that are put together to a line.
-#[derive(Clone, Copy)]
+/// A line as it grows. What has no room is left out, which happens to no line.
+#[derive(Drop)]
 pub(crate) struct Text {
-    pub(crate) bytes: [u8; LINE_ROOM],
-    pub(crate) len: usize,
+    bytes: ArrayVec<u8, LINE_ROOM>,
+    ghost fits: { length bytes.items ≤ 40 },
 }
 
 impl Text {
+    ghost use Rattle.std.specs.Prelude.{◌≡◌, ◌≤◌, [], ◌∷◌, length};
+    ghost use Rattle.installer.specs.Figures.{digits, figure};
+    ghost use Rattle.installer.specs.Texts.{text_of, grown, put_on};
+
     /// A word to begin with.
     pub(crate) fn of(word: &[u8]) -> Text
         requires { length word.now ≤ 40 }
-        ensures bytes { text_of result ≡ word.now }
-        ensures long { result.len ≡ length word.now }
+        ensures { text_of result ≡ word.now }
     {
-        let len = word.len();
-        let mut bytes = [0; LINE_ROOM];
-        bytes[0..len].copy_from_slice(word);
-        Text { bytes, len }
+        let mut bytes = ArrayVec::new();
+        bytes.try_extend_from_slice(word).unwrap();
+        Text { bytes }
     }
 
     /// With one byte more.
-    pub(crate) fn with(self, byte: u8) -> Text
-        requires { self.len < 40 }
-        ensures bytes { text_of result ≡ text_of self ++ byte ∷ [] }
-        ensures long { result.len ≡ self.len + 1 }
+    pub(crate) fn with(mut self, byte: u8) -> Text
+        ensures { text_of result ≡ grown self (byte ∷ []) }
     {
-        let mut bytes = self.bytes;
-        bytes[self.len] = byte;
-        Text {
-            bytes,
-            len: self.len + 1,
+        if self.bytes.is_full() {
+            return self;
         }
+        self.bytes.push(byte);
+        self
     }
 
-    /// With the digits of a number.
-    fn digits(self, n: u16) -> Text
-        requires { self.len + length (decimal n) ≤ 40 }
-        ensures bytes { text_of result ≡ text_of self ++ decimal n }
-        ensures long { result.len ≡ self.len + length (decimal n) }
+    /// With the digits of a number, of which the last `places` are written.
+    fn digits(self, places: u8, n: usize) -> Text
+        ensures { text_of result ≡ grown self (digits places n) }
     {
-        let front = if n < 10 { self } else { self.digits(n / 10) };
+        // By hand: a line's numbers have five digits at most, so none needs a bound, and those of the worked cases compute.
+        if places == 0 {
+            return self;
+        }
+        let front = if n < 10 {
+            self
+        } else {
+            self.digits(places - 1, n / 10)
+        };
         front.with(b'0' + (n % 10) as u8)
     }
 
     /// With a comma and a number.
-    pub(crate) fn number(self, n: u16) -> Text
-        requires { self.len ≤ 34 }
-        ensures bytes { text_of result ≡ text_of self ++ 44 ∷ figure n }
-        ensures long { result.len ≤ self.len + 6 }
+    pub(crate) fn number(self, n: usize) -> Text
+        ensures { text_of result ≡ grown self (44 ∷ figure n) }
     {
-        self.with(b',').digits(n)
+        self.with(b',').digits(5, n)
     }
 
     /// Puts it at the front of a buffer, and tells how long it is.
-    pub(crate) fn put(self, line: &mut [u8]) -> usize
-        requires { (self.len ≤ 40) × (40 ≤ length line.old) }
-        ensures length { result ≡ length (text_of self) }
-        ensures line { line.new ≡ put_on (text_of self) line.old }
-        ensures short { result ≤ 40 }
+    pub(crate) fn put(&self, line: &mut [u8]) -> usize
+        requires { 40 ≤ length line.old }
+        ensures length { result ≡ length (text_of self.now) }
+        ensures line { line.new ≡ put_on (text_of self.now) line.old }
     {
-        let len = self.len;
-        line[0..len].copy_from_slice(&self.bytes[0..len]);
-        len
+        let bytes = self.bytes.as_slice();
+        line[..bytes.len()].copy_from_slice(bytes);
+        bytes.len()
     }
 }

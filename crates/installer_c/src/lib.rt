@@ -8,6 +8,8 @@ ghost use Rattle.installer.specs.Outcomes.{worked_on};
 ghost use Rattle.installer.specs.Cases.{WorkedCases};
 ghost use Rattle.installer.specs.Inputs.{first_text, second_text, FirstGap};
 
+// The two calls stand twice, since C finds them by their names in the static library, and Rust by their paths in `installer`.
+
 /// Writes the verdict on the module's text and the contract's as one line, ended by a line feed, and answers its length.
 /// With a line buffer of fewer than 40 bytes it answers 0 and writes nothing.
 #[unsafe(no_mangle)]

@@ -32,12 +32,12 @@ returns c =
     let was = c.args.line.now in
     let told = line_for a b (length w) in
     let h = c.if-line-lt-LINE_ROOM.false in
-    let e : text_of c.line_of.result ≡ told = c.line_of.ensures.bytes ∙ ap line_of c.outcome_of.ensures.value in
+    let e : text_of c.line_of.result ≡ told = c.line_of.ensures ∙ ap line_of c.outcome_of.ensures.value in
     record {
       length = c.put.ensures.length ∙ ap length e ∙ enough was (length told) 0 h;
       line = c.put.ensures.line ∙ ap (λ (xs : List ℕ). put_on xs was) e ∙ enough was (put_on told was) was h;
       workspace = c.outcome_of.ensures.workspace ∙ enough was (worked_on a b w) w h;
-      short = c.put.ensures.short;
+      short = omega (arith, c.put.ensures.length, c.line_of.result.fits);
       promises = verdict_promises a b (length w);
       decimals = figures_are_decimals;
     }

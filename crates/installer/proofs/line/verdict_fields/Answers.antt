@@ -1,4 +1,4 @@
-use Rattle.std.proofs.Common.{codes, sym, ap, ◌∙◌, arith}
+use Rattle.std.proofs.Common.{take, codes, sym, ap, ◌∙◌}
 use Rattle.table.specs.Write.{parted}
 use Rattle.judge.specs.declared.verdict.Answer.{Answer}
 use Rattle.installer.specs.Figures.{figure}
@@ -9,20 +9,14 @@ use Rattle.installer.proofs.line.verdict_fields.Goals as goal
 pub returns-in-Yes : goal.returns-in-Yes
 returns-in-Yes c =
     let v = c.args.verdict in
-    record {
-      bytes = fields (codes "yes") (figure v.states) (figure v.others) (figure v.highest) (figure v.standing)
-          c.of.ensures.bytes c.number.ensures.bytes c.number-in-Yes.ensures.bytes c.number-in-Yes-2.ensures.bytes c.number-in-Yes-3.ensures.bytes
-          ∙ sym (ap (λ (a : Answer). parted 44 (answer_fields v a)) c.in-Yes.is);
-      long = omega arith;
-    }
+    fields (codes "yes") (figure v.states) (figure v.others) (figure v.highest) (figure v.standing)
+    c.of.ensures c.number.ensures c.number-in-Yes.ensures c.number-in-Yes-2.ensures c.number-in-Yes-3.ensures
+    ∙ sym (ap (λ (a : Answer). take 40 (parted 44 (answer_fields v a))) c.in-Yes.is)
 
 pub returns-in-No : goal.returns-in-No
 returns-in-No c =
     let v = c.args.verdict in
     let x = c.in-No.counterexample in
-    record {
-      bytes = fields (codes "no") (figure v.states) (figure v.others) (figure c.in-No.round) (parted 44 (failing_fields x))
-          c.of-in-No.ensures.bytes c.number-in-No.ensures.bytes c.number-in-No-2.ensures.bytes c.number-in-No-3.ensures.bytes c.with_failing.ensures.bytes
-          ∙ no_parted v c.in-No.round x ∙ sym (ap (λ (a : Answer). parted 44 (answer_fields v a)) c.in-No.is);
-      long = omega arith;
-    }
+    fields (codes "no") (figure v.states) (figure v.others) (figure c.in-No.round) (parted 44 (failing_fields x))
+    c.of-in-No.ensures c.number-in-No.ensures c.number-in-No-2.ensures c.number-in-No-3.ensures c.failing.ensures
+    ∙ ap (take 40) (no_parted v c.in-No.round x) ∙ sym (ap (λ (a : Answer). take 40 (parted 44 (answer_fields v a))) c.in-No.is)

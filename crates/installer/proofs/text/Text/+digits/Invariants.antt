@@ -1,4 +1,4 @@
 use Rattle.installer.proofs.text.Text.+digits.Given as goal
 
 abbrev pub decreases-digits : goal.decreases-digits
-decreases-digits l = l.n
+decreases-digits l = l.places
