@@ -1,5 +1,6 @@
 -- What a house means: its tables in order, and what is on its seats.
-use Rattle.std.specs.Prelude.{ℕ, ◌+◌, List, [], ◌∷◌, ◌++◌, length, Some, None, Ok, Err, Option, Result, slice_index_or, slice_set}
+use Rattle.std.specs.Prelude.{ℕ, List, [], ◌∷◌, ◌++◌, length, Some, None, Ok, Err, Option, Result, slice_index_or, slice_set}
+use Rattle.std.specs.List.{sum_by}
 use Rattle.lts.specs.Machines.{Machine}
 use Rattle.lts.specs.Layers.{restrict_machine, parallel_machine}
 use Rattle.source.specs.Tables.{table_machine}
@@ -38,9 +39,8 @@ abbrev pub pile_machine : List Listing → Pile → Machine
 pile_machine ts p = restrict_machine p.hidden.0 (helped ts p.table p.helper)
 
 -- how many places the moves of all tables take
-unfoldable pub places : List Listing → ℕ
-places [] = 0
-places (t ∷ ts) = length t.moves + places ts
+abbrev pub places : List Listing → ℕ
+places ts = sum_by (λ t. length t.moves) ts
 
 -- what is on seat s
 abbrev pub seat_at : Contents → ℕ → Seat

@@ -33,6 +33,7 @@ pub enum Refusal {
 }
 
 impl Refusal {
+    /// The refusal's number, by which lines and statements name it.
     pub fn number(&self) -> u8
         ensures { result ≡ number self.now }
     {

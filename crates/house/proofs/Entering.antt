@@ -1,7 +1,7 @@
 -- A table that is kept.
 use Rattle.std.proofs.Common.{◌≡◌, ℕ, ◌+◌, ◌-◌, ◌<◌, ◌≤◌, Bool, true, false, cond, ◌&&◌, leb, ltb, List, [], ◌∷◌, ◌++◌, map, length, take, drop, is_ok, Some, None, Ok, Err, Option, Result, sym, refl, ap, ◌∙◌, subst, subst₂, arith}
 use Rattle.std.proofs.lemmas.List.{drop-take, take-take, take_at, map_push, length-take-le, length-drop, length_push, drop_at, get_or_append_left}
-use Rattle.std.proofs.lemmas.Bool.{and_parts, and_from, leb-true, le-leb, ltb-true, ltb-false, lt-ltb, lt-leb, le-ltb, true≢false}
+use Rattle.std.proofs.lemmas.Bool.{and_parts, and_from, ltb-true, ltb-false, lt-ltb, lt-leb, le-ltb, true≢false}
 use Rattle.lts.specs.Machines.{Machine}
 use Rattle.lts.specs.Layers.{restrict_machine, parallel_machine}
 use Rattle.source.specs.declared.table.Move.{Move}
@@ -14,9 +14,11 @@ use Rattle.calls.specs.declared.seat.Pile.{Pile}
 use Rattle.calls.specs.declared.seat.Seat.{Seat}
 use Rattle.calls.specs.declared.seat.Seat.TheVariants.{Empty, Contract, Fitted}
 use Rattle.calls.specs.Contents.{machine_of, machine_at, helped, pile_machine, places}
-use Rattle.house.specs.Stored.{every, listing, listings, entry_in, taken_up, seat_in, helper_in, judged_yes, Within}
+use Rattle.house.specs.Stored.{listing, listings, seat_in, helper_in, judged_yes, Within}
 use Rattle.house.specs.Means.{means}
-use Rattle.house.proofs.Everys.{every_push, every_weaker}
+use Rattle.std.specs.List.{All, sum_by}
+use Rattle.std.proofs.lemmas.List.Elements.{All-head, All-tail, All-push, All-weaker}
+use Rattle.std.proofs.lemmas.List.Sums.{sum_by-cons, sum_by_push}
 use Rattle.house.proofs.Tables.{tables_count}
 use Rattle.calls.specs.declared.refusal.Refusal.{Refusal}
 use Rattle.calls.specs.Calls.{enter_result}
@@ -78,33 +80,26 @@ module _ (ms ms' new : List Move) (used : ℕ) (within : used ≤ length ms)
       ∙ ap (drop f) (sym (take-take (f + c) used ms' l) ∙ ap (take (f + c)) kept ∙ take-take (f + c) used ms l)
       ∙ drop-take f c ms
 
-  listings_kept : (es : List Entry) → every (entry_in used) es ≡ true → map (listing ms') es ≡ map (listing ms) es
+  listings_kept : (es : List Entry) → All (λ e. e.first + e.count ≤ used) es → map (listing ms') es ≡ map (listing ms) es
   listings_kept [] h = refl
   listings_kept (e ∷ es) h =
-      let a = and_parts (entry_in used e) (every (entry_in used) es) h in
       let p : listing ms' e ≡ listing ms e =
-      ap (λ (xs : List Move). record { states = e.states; start = e.start; moves = xs }) (part_kept e (leb-true (e.first + e.count) used a.0)) in
-      ap (λ (t : Listing). t ∷ map (listing ms') es) p ∙ ap (λ (ts : List Listing). listing ms e ∷ ts) (listings_kept es a.1)
+      ap (λ (xs : List Move). record { states = e.states; start = e.start; moves = xs }) (part_kept e (All-head (λ x. x.first + x.count ≤ used) e es h)) in
+      ap (λ (t : Listing). t ∷ map (listing ms') es) p ∙ ap (λ (ts : List Listing). listing ms e ∷ ts) (listings_kept es (All-tail (λ x. x.first + x.count ≤ used) e es h))
 
   its_listing : (e : Entry) → e.first ≡ used → e.count ≡ length new → listing ms' e ≡ record { states = e.states; start = e.start; moves = new }
   its_listing e f n =
       ap (λ (xs : List Move). record { states = e.states; start = e.start; moves = xs })
       (rw (f, n) new_part)
 
-taken_up_push : (es : List Entry) (e : Entry) → taken_up (es ++ e ∷ []) ≡ taken_up es + e.count
-unfolding taken_up
-taken_up_push [] e = omega arith
-taken_up_push (x ∷ xs) e = omega (arith, taken_up_push xs e)
-
-places_are : (ms : List Move) (used : ℕ) → used ≤ length ms → (es : List Entry) → every (entry_in used) es ≡ true → places (map (listing ms) es) ≡ taken_up es
-unfolding places taken_up
+places_are : (ms : List Move) (used : ℕ) → used ≤ length ms → (es : List Entry) → All (λ e. e.first + e.count ≤ used) es →
+    places (map (listing ms) es) ≡ sum_by (λ e. e.count) es
 places_are ms used l [] h = refl
 places_are ms used l (e ∷ es) h =
-    let a = and_parts (entry_in used e) (every (entry_in used) es) h in
-    let k : e.first + e.count ≤ used = leb-true (e.first + e.count) used a.0 in
+    let k : e.first + e.count ≤ used = All-head (λ x. x.first + x.count ≤ used) e es h in
     let z : e.count ≤ length (drop e.first ms) = rw length-drop (omega arith) in
-    let n : length (take e.count (drop e.first ms)) ≡ e.count = length-take-le e.count (drop e.first ms) z in
-    omega (arith, places_are ms used l es a.1, n)
+    sum_by-cons (λ t. length t.moves) (listing ms e) (map (listing ms) es) ∙ ap (λ (n : ℕ). n + places (map (listing ms) es)) (length-take-le e.count (drop e.first ms) z)
+    ∙ ap (λ (n : ℕ). e.count + n) (places_are ms used l es (All-tail (λ x. x.first + x.count ≤ used) e es h)) ∙ sym (sum_by-cons (λ x. x.count) e es)
 
 places_used : (h : House) → places (means h).tables ≡ h.used
 places_used h =
@@ -169,17 +164,13 @@ module _ (h : House) (ms' new : List Move) (s : Summary) (es : List Entry) (many
 
   pub within_after : Within ms' (h.used + s.moves) es h.seats
   within_after = (
-    ap (every (entry_in (h.used + s.moves))) pushed
-        ∙ every_push (entry_in (h.used + s.moves)) h.entries.items (entry_of h.used s)
-        (every_weaker (entry_in h.used) (entry_in (h.used + s.moves)) wider h.entries.items h.within.0)
-        (le-leb (h.used + s.moves) (h.used + s.moves) (omega arith)),
-    subst (λ (ts : List Listing). every (seat_in ts) h.seats ≡ true) (sym tables_after)
-        (every_weaker (seat_in (means h).tables) (seat_in ((means h).tables ++ (listed s new ∷ []))) (seat_more (means h).tables (listed s new)) h.seats h.within.1),
-    ap taken_up pushed ∙ taken_up_push h.entries.items (entry_of h.used s) ∙ ap (λ (n : ℕ). n + s.moves) h.within.2,
+    subst (λ (xs : List Entry). All (λ e. e.first + e.count ≤ h.used + s.moves) xs) (sym pushed)
+        (All-push (λ e. e.first + e.count ≤ h.used + s.moves) h.entries.items (entry_of h.used s)
+        (All-weaker (λ e. e.first + e.count ≤ h.used) (λ e. e.first + e.count ≤ h.used + s.moves) (λ e l. omega arith) h.entries.items h.within.0) (omega arith)),
+    subst (λ (ts : List Listing). All (λ x. seat_in ts x ≡ true) h.seats) (sym tables_after)
+        (All-weaker (λ x. seat_in (means h).tables x ≡ true) (λ x. seat_in ((means h).tables ++ (listed s new ∷ [])) x ≡ true) (seat_more (means h).tables (listed s new)) h.seats h.within.1),
+    ap (sum_by (λ e. e.count)) pushed ∙ sum_by_push _ h.entries.items (entry_of h.used s) ∙ ap (λ (n : ℕ). n + s.moves) h.within.2,
   )
-    where
-      wider : (e : Entry) → entry_in h.used e ≡ true → entry_in (h.used + s.moves) e ≡ true
-      wider e i = let l : e.first + e.count ≤ h.used = leb-true (e.first + e.count) h.used i in le-leb (e.first + e.count) (h.used + s.moves) (omega arith)
 
 -- there is a place for the table, and room for its moves or none
 module _ (h : House) (r : Result Listing Fault) (places_left : length h.entries.items < 12) where

@@ -1,6 +1,8 @@
 -- Seats whose piles were judged to conform keep the promise.
 use Rattle.std.proofs.Common.{◌≡◌, ℕ, zero, suc, ◌*◌, ◌≤◌, true, not, ◌&&◌, eqb, ltb, List, [], ◌∷◌, length, Some, None, Option, refl, subst, ⊎_elim, mul-zero, zero-mul, arith}
 use Rattle.std.proofs.lemmas.Bool.{and_parts, not-true, eqb-false, true≢false, cases_eq}
+use Rattle.std.specs.List.{All}
+use Rattle.std.proofs.lemmas.List.Elements.{All-head, All-tail}
 use Rattle.lts.specs.Labels.{member}
 use Rattle.lts.specs.Systems.{Lts, Conforms}
 use Rattle.lts.specs.Operators.{restrict, parallel}
@@ -26,7 +28,7 @@ use Rattle.calls.specs.declared.seat.Seat.TheVariants.{Empty, Contract, Fitted}
 use Rattle.house.specs.declared.house.House.{House}
 use Rattle.calls.specs.Contents.{table_at, machine_at, helped, pile_machine}
 use Rattle.calls.specs.Promises.{table_system, helped_system, pile_system, as_contracts, as_fitted, StuckOnlyWhereContractsCan}
-use Rattle.house.specs.Stored.{every, is_yes, judged_yes, helper_in, seat_in}
+use Rattle.house.specs.Stored.{is_yes, judged_yes, helper_in, seat_in}
 use Rattle.house.specs.Means.{means}
 
 pub machine_sound : (ts : List Listing) (c : ℕ) → Sound (machine_at ts c)
@@ -85,21 +87,20 @@ pile_conforms ts c p e =
     (systems_conform P Q (proper P s f) (proper Q u g) (yes_means (is_yes_true (answer P Q) b.1)))
 
 -- seat by seat
-row_conforms : (ts : List Listing) (ss : List Seat) → every (seat_in ts) ss ≡ true → (E F : Lts) → Conforms E F →
+row_conforms : (ts : List Listing) (ss : List Seat) → All (λ x. seat_in ts x ≡ true) ss → (E F : Lts) → Conforms E F →
     Conforms (row E (as_fitted ts ss)) (row F (as_contracts ts ss))
 row_conforms ts [] h E F c = c
-row_conforms ts (Empty ∷ ss) h E F c = row_conforms ts ss h E F c
+row_conforms ts (Empty ∷ ss) h E F c = row_conforms ts ss (All-tail (λ x. seat_in ts x ≡ true) Empty ss h) E F c
 row_conforms ts (Contract k ∷ ss) h E F c =
-    let a = and_parts (seat_in ts (Contract k)) (every (seat_in ts) ss) h in
-    row_conforms ts ss a.1 (parallel E (table_system ts k)) (parallel F (table_system ts k))
+    row_conforms ts ss (All-tail (λ x. seat_in ts x ≡ true) (Contract k) ss h) (parallel E (table_system ts k)) (parallel F (table_system ts k))
     (parallel_keeps E F (table_system ts k) (table_system ts k) c (conforms_refl (table_system ts k)))
 row_conforms ts (Fitted k p ∷ ss) h E F c =
-    let a = and_parts (seat_in ts (Fitted k p)) (every (seat_in ts) ss) h in
     let n = length ts in
     let y = judged_yes (pile_machine ts p) (machine_at ts k) in
-    let b = (and_parts (ltb k n) (ltb p.table n && (helper_in n p.helper && y)) a.0).1 in
+    let a = All-head (λ x. seat_in ts x ≡ true) (Fitted k p) ss h in
+    let b = (and_parts (ltb k n) (ltb p.table n && (helper_in n p.helper && y)) a).1 in
     let d = (and_parts (ltb p.table n) (helper_in n p.helper && y) b).1 in
-    row_conforms ts ss a.1 (parallel E (pile_system ts p)) (parallel F (table_system ts k))
+    row_conforms ts ss (All-tail (λ x. seat_in ts x ≡ true) (Fitted k p) ss h) (parallel E (pile_system ts p)) (parallel F (table_system ts k))
     (parallel_keeps E F (pile_system ts p) (table_system ts k) c (pile_conforms ts k p (and_parts (helper_in n p.helper) y d).1))
 
 pub house_keeps : (E : Lts) (h : House) → StuckOnlyWhereContractsCan E (means h)

@@ -1,4 +1,3 @@
-pub mod Everys
 pub mod Tables
 pub mod Seated
 pub mod Lawful

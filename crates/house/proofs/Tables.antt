@@ -1,14 +1,12 @@
 -- The tables of a house, as its memory has them.
 use Rattle.std.proofs.Common.{◌≡◌, ℕ, ◌+◌, ◌-◌, ◌<◌, ◌≤◌, List, length, get_or, take, drop, sym, ap, subst, arith}
 use Rattle.std.proofs.lemmas.List.{length-map, get_or-map}
-use Rattle.std.proofs.lemmas.Bool.{leb-true}
 use Rattle.source.specs.declared.table.Move.{Move}
 use Rattle.house.specs.declared.house.Entry.{Entry}
 use Rattle.house.specs.declared.house.House.{House}
 use Rattle.calls.specs.Contents.{table_at}
-use Rattle.house.specs.Stored.{listing, entry_in}
+use Rattle.house.specs.Stored.{listing}
 use Rattle.house.specs.Means.{means}
-use Rattle.house.proofs.Everys.{every_getD}
 
 pub tables_count : (h : House) → length (means h).tables ≡ length h.entries.items
 tables_count h = length-map _ _
@@ -18,7 +16,7 @@ module _ (h : House) (c : ℕ) (below : c < length (means h).tables) where
   there = subst (λ (n : ℕ). c < n) (tables_count h) below
 
   pub entry_within : (d : Entry) → (get_or h.entries.items c d).first + (get_or h.entries.items c d).count ≤ h.used
-  entry_within d = leb-true _ _ (every_getD (entry_in h.used) h.entries.items c d there h.within.0)
+  entry_within d = h.within.0 c d there
 
   pub entry_listing : (d : Entry) → listing h.moves (get_or h.entries.items c d) ≡ table_at (means h).tables c
   entry_listing d = sym (get_or-map (listing h.moves) h.entries.items c d _ there)

@@ -1,5 +1,6 @@
 -- How a house lies in memory: what its arrays keep to.
-use Rattle.std.specs.Prelude.{◌≡◌, ℕ, ◌+◌, Bool, true, false, not, ◌&&◌, List, [], ◌∷◌, map, length, take, drop, Some, None, Option, ◌==◌, nat_le, nat_lt}
+use Rattle.std.specs.Prelude.{◌≡◌, ℕ, ◌+◌, ◌≤◌, Bool, true, false, not, ◌&&◌, List, map, length, take, drop, Some, None, Option, ◌==◌, nat_lt}
+use Rattle.std.specs.List.{All, sum_by}
 use Rattle.lts.specs.Machines.{Machine}
 use Rattle.source.specs.declared.table.Move.{Move}
 use Rattle.table.specs.Table.{Listing}
@@ -11,26 +12,12 @@ use Rattle.calls.specs.declared.seat.Seat.{Seat}
 use Rattle.calls.specs.declared.seat.Seat.TheVariants.{Empty, Contract, Fitted}
 use Rattle.calls.specs.Contents.{machine_at, pile_machine}
 
--- whether each element passes a test
-abbrev pub every : {X : Type 0} → (X → Bool) → List X → Bool
-every f [] = true
-every f (x ∷ xs) = f x && every f xs
-
 -- a table, as its entry tells
 abbrev pub listing : List Move → Entry → Listing
 listing ms e = record { states = e.states; start = e.start; moves = take e.count (drop e.first ms) }
 
 abbrev pub listings : List Move → List Entry → List Listing
 listings ms es = map (listing ms) es
-
--- the moves of an entry lie among those in use
-abbrev pub entry_in : ℕ → Entry → Bool
-entry_in used e = nat_le (e.first + e.count) used
-
--- how many places the entries name
-unfoldable pub taken_up : List Entry → ℕ
-taken_up [] = 0
-taken_up (e ∷ es) = e.count + taken_up es
 
 abbrev pub is_yes : Answer → Bool
 is_yes Yes = true
@@ -58,8 +45,9 @@ seat_in ts (Fitted c p) =
 abbrev pub Wide : List Move → List Seat → Type 0
 Wide moves seats = (length moves ≡ 1024) × (length seats ≡ 6)
 
+-- the moves of each entry lie among those in use, and the entries take up just these
 abbrev pub Within : List Move → ℕ → List Entry → List Seat → Type 0
 Within moves used entries seats =
-    (every (entry_in used) entries ≡ true)
-    × (every (seat_in (listings moves entries)) seats ≡ true)
-    × (taken_up entries ≡ used)
+    All (λ e. e.first + e.count ≤ used) entries
+    × All (λ x. seat_in (listings moves entries) x ≡ true) seats
+    × (sum_by (λ e. e.count) entries ≡ used)

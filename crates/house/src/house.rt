@@ -15,7 +15,7 @@ mod testing;
 const TABLES: usize = 12;
 
 /// No house has another number of seats.
-const SEATS: u8 = 6;
+const SEATS: usize = 6;
 
 /// A table's states and start, and the places of its moves.
 #[derive(Clone, Copy, Default)]
@@ -33,7 +33,7 @@ pub struct House {
     moves: [Move; 1024],
     used: u16,
     entries: ArrayVec<Entry, TABLES>,
-    seats: [Seat; 6],
+    seats: [Seat; SEATS],
     ghost wide: { Wide moves seats },
     ghost few: { used ≤ 1024 },
     ghost within: { Within moves used entries.items seats },

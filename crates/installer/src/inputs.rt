@@ -22,6 +22,7 @@ fn empty_line(input: &[u8]) -> usize
     ensures value { result ≡ gap input.now }
     ensures within { result ≤ length input.now }
 {
+    // A loop: whether a line begins at a byte is told by the byte before it.
     let mut fresh = true;
     for (at, byte) in input.iter().enumerate() {
         let ends = *byte == b'\n';

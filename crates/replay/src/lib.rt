@@ -63,6 +63,7 @@ pub fn replay<E: System>(
 {
     let mut workspace = [0u8; MOST_ROOM];
     let mut house = House::new();
+    // No zip with the places: a call whose answer has none is made too.
     for (i, request) in requests.iter().enumerate() {
         let answer = make(&mut house, request, &mut workspace);
         if i < answers.len() {

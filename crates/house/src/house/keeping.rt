@@ -20,7 +20,7 @@ impl House {
             moves: [Move::default(); 1024],
             used: 0,
             entries: ArrayVec::new(),
-            seats: [Seat::Empty; 6],
+            seats: [Seat::Empty; SEATS],
         }
     }
 
@@ -62,10 +62,7 @@ impl House {
     pub fn at(&self, s: u8) -> Option<Seat>
         ensures { result ≡ (if nat_lt 5 s then None else Some (seat_at (means self.now) s)) }
     {
-        if s >= SEATS {
-            return None;
-        }
-        Some(self.seats[s as usize])
+        self.seats.get(s as usize).copied()
     }
 
     /// Whether there is no table `c`.

@@ -2,6 +2,7 @@ use Rattle.std.proofs.Common.{◌≡◌, ◌+◌, ◌-◌, ◌≤◌, true, List
 use Rattle.std.proofs.lemmas.List.{take-append-drop}
 use Rattle.std.proofs.lemmas.Bool.{eqb-false}
 use Rattle.source.specs.declared.table.Move.{Move}
+use Rattle.std.specs.List.{All}
 use Rattle.table.specs.Table.{Listing, read_text, moves_of}
 use Rattle.table.specs.declared.fault.Fault.{Fault}
 use Rattle.calls.specs.declared.request.Reply.{Reply}
@@ -9,7 +10,7 @@ use Rattle.calls.specs.Contents.{one_more}
 use Rattle.calls.specs.Calls.{enter, enter_result}
 use Rattle.calls.proofs.Taking.{when_refused, when_taken, err_refused, ok_taken}
 use Rattle.house.specs.Means.{means}
-use Rattle.house.specs.Stored.{every, seat_in, listings}
+use Rattle.house.specs.Stored.{seat_in, listings}
 use Rattle.house.proofs.Entering.{room_ok, enter_kept, enter_no_room, tables_after, within_after}
 use Rattle.house.proofs.house.House.keep.Goals as goal
 
@@ -22,7 +23,7 @@ invariant_of-self c =
       few = h.few;
       within = (
         h.within.0,
-        subst (λ (ms : List Move). every (seat_in (listings ms h.entries.items)) h.seats ≡ true) (sym e) h.within.1,
+        subst (λ (ms : List Move). All (λ x. seat_in (listings ms h.entries.items) x ≡ true) h.seats) (sym e) h.within.1,
         h.within.2,
       );
     }

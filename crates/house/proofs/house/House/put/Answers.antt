@@ -1,7 +1,7 @@
-use Rattle.std.proofs.Common.{◌∙◌, length-set}
+use Rattle.std.proofs.Common.{◌≡◌, true, ◌∙◌, length-set}
+use Rattle.std.proofs.lemmas.List.Elements.{All-set}
 use Rattle.house.specs.Stored.{seat_in}
 use Rattle.house.specs.Means.{means}
-use Rattle.house.proofs.Everys.{every_set}
 use Rattle.house.proofs.house.House.put.Goals as goal
 
 pub invariant_of-self : goal.invariant_of-self
@@ -10,5 +10,5 @@ invariant_of-self c =
     record {
       wide = (h.wide.0, length-set _ _ _ ∙ h.wide.1);
       few = h.few;
-      within = (h.within.0, every_set (seat_in (means h).tables) h.seats _ _ c.requires.1 h.within.1, h.within.2);
+      within = (h.within.0, All-set (λ x. seat_in (means h).tables x ≡ true) h.seats _ _ c.requires.1 h.within.1, h.within.2);
     }
