@@ -4,14 +4,10 @@ use Rattle.table.specs.Table.{longest}
 use Rattle.judge.specs.Promises.{FindsTheLargest, ContextKeepsYes, CounterexampleFails}
 use Rattle.judge.specs.declared.verdict.Verdict.{Verdict}
 use Rattle.installer.specs.declared.outcome.Refused.{Refused}
-use Rattle.installer.specs.Texts.{put_on}
+use Rattle.installer.specs.Texts.{line_room, put_on}
 use Rattle.installer.specs.Outcomes.{machine_of, outcome, worked_on, TablesFit, TellsConformance}
 use Rattle.installer.specs.Lines.{line_of, Small}
 use Rattle.installer.specs.Inputs.{first_text, second_text}
-
--- no line is longer
-abbrev pub line_room : ℕ
-line_room = 40
 
 -- the one with a line buffer that is long enough, the other with one that is too short
 abbrev pub with_room : {A : Type 0} → List ℕ → A → A → A

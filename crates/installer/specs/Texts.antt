@@ -6,9 +6,17 @@ use Rattle.installer.specs.declared.text.Text.{Text}
 abbrev pub text_of : Text → List ℕ
 text_of t = t.bytes.items
 
--- with bytes behind it, as far as there is room
+-- no line is longer
+abbrev pub line_room : ℕ
+line_room = 40
+
+-- as much of a line as there is room for
+abbrev pub cut : List ℕ → List ℕ
+cut xs = take line_room xs
+
+-- with bytes behind what there is so far
 abbrev pub grown : Text → List ℕ → List ℕ
-grown t xs = take 40 (text_of t ++ xs)
+grown t xs = cut (text_of t ++ xs)
 
 -- bytes at the front of a buffer, and later bytes as they were
 abbrev pub put_on : List ℕ → List ℕ → List ℕ

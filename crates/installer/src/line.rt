@@ -1,6 +1,6 @@
-ghost use Rattle.std.specs.Prelude.{◌≡◌, ◌∷◌, take};
+ghost use Rattle.std.specs.Prelude.{◌≡◌, ◌∷◌};
 ghost use Rattle.table.specs.Write.{parted};
-ghost use Rattle.installer.specs.Texts.{text_of, grown};
+ghost use Rattle.installer.specs.Texts.{text_of, cut, grown};
 ghost use Rattle.installer.specs.Lines.{line_of, label_fields, failing_fields, answer_fields, refusal_fields};
 
 use crate::outcome::Refused;
@@ -37,7 +37,7 @@ impl Text {
 
 /// The fields of a verdict.
 fn verdict_fields(verdict: Verdict) -> Text
-    ensures { text_of result ≡ take 40 (parted 44 (answer_fields verdict verdict.answer)) }
+    ensures { text_of result ≡ cut (parted 44 (answer_fields verdict verdict.answer)) }
 {
     match verdict.answer {
         Answer::Yes => Text::of(b"yes")
@@ -58,7 +58,7 @@ fn verdict_fields(verdict: Verdict) -> Text
 
 /// The fields of a refusal.
 fn refusal_fields(refused: Refused) -> Text
-    ensures { text_of result ≡ take 40 (parted 44 (refusal_fields refused)) }
+    ensures { text_of result ≡ cut (parted 44 (refusal_fields refused)) }
 {
     Text::of(b"refused")
         .number(refused.number as usize)
