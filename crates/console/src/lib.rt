@@ -1,0 +1,6 @@
+//! What the programs share that people use: the texts they read, the tables they keep, and how they show what others wrote.
+#![tactic(auto)]
+
+pub mod input;
+pub mod shown;
+pub mod stored;
