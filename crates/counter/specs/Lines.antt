@@ -1,10 +1,10 @@
 -- The words of a line, and the call that they make.
-use Rattle.std.specs.Prelude.{◌≡◌, ℕ, ◌<◌, ◌⊎◌, List, [], ◌∷◌, ◌++◌, length, codes, ◌≢◌}
+use Rattle.std.specs.Prelude.{◌≡◌, ℕ, ◌<◌, ◌⊎◌, List, [], ◌∷◌, ◌++◌, length, codes, ◌≢◌, Option, Some, None, Result, Ok, Err}
 use Rattle.std.specs.Char.{is_whitespace, is_not_whitespace}
 use Rattle.std.specs.Str.{NoCharPasses, EmptyOrStartsWithPassing}
 use Rattle.counter.specs.declared.command.Command.TheVariants.{Enter}
-use Rattle.counter.specs.declared.command.Line.{Line}
-use Rattle.counter.specs.declared.command.Line.TheVariants.{Blank, Call, Unclear}
+use Rattle.counter.specs.declared.command.Command.{Command}
+use Rattle.counter.specs.declared.command.Unclear.{Unclear}
 
 -- bs is white space, the word w, and rest, which is empty or begins with white space
 abbrev pub First : List ℕ → List ℕ → List ℕ → Type 0
@@ -20,7 +20,7 @@ abbrev pub Two : List ℕ → Type 0
 Two bs = (v : List ℕ) × (w : List ℕ) × (more : List ℕ) × (rest : List ℕ) × First bs v more × First more w rest
 
 -- a line says what its words make: a call has its name, and as many words after it as it is given
-abbrev pub Says : List ℕ → Line → Type 0
-Says bs Blank = Words bs []
-Says bs (Call (Enter file)) = Words bs (codes "enter" ∷ file.now ∷ [])
-Says bs Unclear = (w : List ℕ) × (rest : List ℕ) × First bs w rest × ((w ≢ codes "enter") ⊎ (Words rest [] ⊎ Two rest))
+abbrev pub Says : List ℕ → Result (Option Command) Unclear → Type 0
+Says bs (Ok None) = Words bs []
+Says bs (Ok (Some (Enter file))) = Words bs (codes "enter" ∷ file.now ∷ [])
+Says bs (Err u) = (w : List ℕ) × (rest : List ℕ) × First bs w rest × ((w ≢ codes "enter") ⊎ (Words rest [] ⊎ Two rest))

@@ -5,31 +5,28 @@ ghost use Rattle.counter.specs.Lines.{Says, Words, Two};
 
 use std::str::SplitWhitespace;
 
-#[derive(Clone, Copy)]
+#[derive(Clone, Copy, PartialEq, Eq, Debug)]
 pub enum Command<'a> {
     // Read the table in this file, and keep it.
     Enter(&'a str),
 }
 
-#[derive(Clone, Copy)]
-pub enum Line<'a> {
-    Blank,
-    Call(Command<'a>),
-    Unclear,
-}
+// The words of a line make no call.
+#[derive(Clone, Copy, PartialEq, Eq, Debug)]
+pub struct Unclear;
 
-// Words are parted by white space; a call is its name and what it is given.
-pub fn parse<'a>(line: &'a str) -> Line<'a>
+// Words are parted by white space; a call is its name and what it is given, and a line of no words asks for nothing.
+pub fn parse(line: &str) -> Result<Option<Command<'_>>, Unclear>
     ensures { Says line.now result }
 {
     let mut words = line.split_whitespace();
     match words.next() {
-        None => Line::Blank,
-        Some("enter") => match only(words) {
-            Some(file) => Line::Call(Command::Enter(file)),
-            None => Line::Unclear,
-        },
-        Some(_) => Line::Unclear,
+        None => Ok(None),
+        Some("enter") => {
+            let file = only(words).ok_or(Unclear)?;
+            Ok(Some(Command::Enter(file)))
+        }
+        Some(_) => Err(Unclear),
     }
 }
 

@@ -3,11 +3,10 @@
 // Takes calls from the input, one to a line, and prints a statement of what came of them.
 mod command;
 mod desk;
-mod entry;
-mod file;
 mod statement;
 
-use command::{Command, Line};
+use command::{Command, Unclear, parse};
+use console::input::read_file;
 use desk::Desk;
 use statement::{Item, Totals};
 use std::io::{BufRead, BufReader, BufWriter, Write};
@@ -19,12 +18,11 @@ fn main(rt: HostRuntime) -> anyhow::Result<()> {
 fn run(rt: &HostRuntime) -> anyhow::Result<()> {
     let alloc = rt.alloc();
     let mut desk = Desk::new(alloc);
-    let mut totals = Totals::new();
+    let mut totals = Totals::default();
     let mut out = BufWriter::new(alloc, rt.stdout())?;
-    let mut at = 0u64;
-    for line in BufReader::new(alloc, rt.stdin())?.split(alloc, b'\n') {
+    let lines = BufReader::new(alloc, rt.stdin())?.split(alloc, b'\n');
+    for (at, line) in (1u64..).zip(lines) {
         let line = line?;
-        at = at.saturating_add(1);
         if let Some(item) = answer(rt, &mut desk, at, line.as_slice())? {
             totals.count(&item);
             write!(out, "{item}")?;
@@ -42,21 +40,21 @@ fn answer<'a>(
     at: u64,
     line: &'a [u8],
 ) -> anyhow::Result<Option<Item<'a>>> {
-    let Ok(words) = std::str::from_utf8(line) else {
-        return Ok(Some(Item::Unclear(at, "text that is not UTF-8")));
-    };
-    match command::parse(words) {
-        Line::Blank => Ok(None),
-        Line::Call(call) => Ok(Some(obey(rt, desk, call)?)),
-        Line::Unclear => Ok(Some(Item::Unclear(at, words.trim_ascii()))),
+    match call_of(line) {
+        Ok(None) => Ok(None),
+        Ok(Some(call)) => Ok(Some(obey(rt, desk, call)?)),
+        Err(Unclear) => Ok(Some(Item::Unclear(at, line))),
     }
 }
 
+fn call_of(line: &[u8]) -> Result<Option<Command<'_>>, Unclear> {
+    parse(std::str::from_utf8(line).map_err(|_| Unclear)?)
+}
+
 fn obey<'a>(rt: &HostRuntime, desk: &mut Desk, call: Command<'a>) -> anyhow::Result<Item<'a>> {
-    match call {
-        Command::Enter(name) => match file::read(rt, name) {
-            Ok(text) => Ok(Item::Entered(name, desk.enter(text.as_slice())?)),
-            Err(error) => Ok(Item::Unread(name, error)),
-        },
+    let Command::Enter(name) = call;
+    match read_file(rt, name) {
+        Ok(text) => Ok(Item::Entered(name, desk.enter(text.as_slice())?)),
+        Err(error) => Ok(Item::Unread(name, error)),
     }
 }
