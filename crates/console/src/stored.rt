@@ -50,12 +50,7 @@ impl Stored {
     {
         let checked = table::check(text);
         let most = checked.found()?.moves.min(ROOM);
-        let none = Move {
-            from: 0,
-            label: 0,
-            to: 0,
-        };
-        let mut moves = vec![in alloc; none; most]?;
+        let mut moves = vec![in alloc; Move::default(); most]?;
         let summary = checked.store(moves.as_mut_slice())?;
         Ok(Stored { summary, moves })
     }

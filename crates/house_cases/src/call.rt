@@ -1,60 +1,40 @@
-// A call as the words of a line: the text of a table, and the workspace of a fit by its length.
-use calls::Pile;
+// A call as the words of a piece: the text of a table, and the workspace of a fit by its length.
+use calls::{Pile, Request};
 use labels::NameSet;
 use listed::one_line::decode;
 use std::alloc::{AllocError, Global};
 
-#[derive(Drop)]
-pub enum Call {
-    Enter(Vec<u8>),
-    Seat(u8, u8),
-    Fit(u8, Pile, u32),
-    Unfit(u8),
-    Clear(u8),
-}
-
-impl Call {
-    pub fn parse(heap: Global, piece: &str) -> Result<Option<Call>, AllocError> {
-        match piece.split_once(' ') {
-            None => Ok(None),
-            Some(("enter", text)) => Ok(Some(Call::Enter(decode(heap, text.as_bytes())?))),
-            Some((name, rest)) => Ok(short_call(name, rest)),
-        }
+pub fn call_of(heap: Global, piece: &str) -> Result<Option<Request<Vec<u8>>>, AllocError> {
+    if let Some(text) = piece.strip_prefix("enter ") {
+        return Ok(Some(Request::Enter(decode(heap, text.as_bytes())?)));
     }
+    let words: Vec<&str> = piece.split(' ').collect(heap)?;
+    Ok(short_call(words.as_slice()))
 }
 
-fn short_call(name: &str, rest: &str) -> Option<Call> {
-    match name {
-        "seat" => {
-            let (seat, contract) = rest.split_once(' ')?;
-            Some(Call::Seat(number(seat)?, number(contract)?))
+fn short_call(words: &[&str]) -> Option<Request<Vec<u8>>> {
+    match words {
+        ["seat", seat, contract] => Some(Request::Seat(number(seat)?, number(contract)?)),
+        ["fit", seat, table, helper, hidden, room] => {
+            let pile = Pile {
+                table: number(table)?,
+                helper: helper_of(helper)?,
+                hidden: NameSet(hidden.parse::<u32>().ok()?),
+            };
+            Some(Request::Fit(number(seat)?, pile, room.parse::<u32>().ok()? as usize))
         }
-        "fit" => fit_call(rest),
-        "unfit" => Some(Call::Unfit(number(rest)?)),
-        "clear" => Some(Call::Clear(number(rest)?)),
+        ["unfit", seat] => Some(Request::Unfit(number(seat)?)),
+        ["clear", seat] => Some(Request::Clear(number(seat)?)),
         _ => None,
     }
 }
 
-// SEAT MODULE HELPER NAMES ROOM
-fn fit_call(rest: &str) -> Option<Call> {
-    let (seat, rest) = rest.split_once(' ')?;
-    let (table, rest) = rest.split_once(' ')?;
-    let (helper, rest) = rest.split_once(' ')?;
-    let (hidden, room) = rest.split_once(' ')?;
-    let pile = Pile {
-        table: number(table)?,
-        helper: helper_of(helper)?,
-        hidden: NameSet(hidden.parse::<u32>().ok()?),
-    };
-    Some(Call::Fit(number(seat)?, pile, room.parse::<u32>().ok()?))
-}
-
+// The helper that a word names; `-` is none.
 fn helper_of(word: &str) -> Option<Option<u8>> {
-    if word == "-" {
-        return Some(None);
+    match word {
+        "-" => Some(None),
+        _ => number(word).map(Some),
     }
-    Some(Some(number(word)?))
 }
 
 fn number(word: &str) -> Option<u8> {

@@ -1,7 +1,11 @@
 // A case is a line SHAPE;HIDDEN;ROOM;TEXT;TEXT;TEXT: the module's tables come first, and the contract's last.
 use labels::NameSet;
+use listed::fields::{ascii, read};
+use listed::lines::Unanswered;
+use std::alloc::Global;
+use std::str::FromStr;
 
-#[derive(Clone, Copy)]
+#[derive(Clone, Copy, PartialEq, Eq, Debug)]
 pub enum Shape {
     // The first table.
     Plain,
@@ -15,6 +19,21 @@ pub enum Shape {
     RenamedPair,
 }
 
+impl FromStr for Shape {
+    type Err = Unanswered;
+
+    fn from_str(field: &str) -> Result<Shape, Unanswered> {
+        match field {
+            "0" => Ok(Shape::Plain),
+            "1" => Ok(Shape::Hidden),
+            "2" => Ok(Shape::Pair),
+            "3" => Ok(Shape::HiddenPair),
+            "4" => Ok(Shape::RenamedPair),
+            _ => Err(Unanswered::Unclear),
+        }
+    }
+}
+
 #[derive(Clone, Copy)]
 pub struct Case<'a> {
     pub shape: Shape,
@@ -22,39 +41,24 @@ pub struct Case<'a> {
     pub hidden: NameSet,
     // How many bytes the workspace has.
     pub room: u32,
-    pub texts: [&'a str; 3],
+    pub first: &'a str,
+    pub second: &'a str,
+    pub contract: &'a str,
 }
 
 impl<'a> Case<'a> {
-    pub fn parse(line: &'a [u8]) -> Option<Case<'a>> {
-        let words = std::str::from_utf8(line).ok()?;
-        if !words.is_ascii() {
-            return None;
-        }
-        let mut fields = words.split(';');
-        let case = Case {
-            shape: shape_of(fields.next()?)?,
-            hidden: NameSet(fields.next()?.parse::<u32>().ok()?),
-            room: fields.next()?.parse::<u32>().ok()?,
-            texts: [fields.next()?, fields.next()?, fields.next()?],
+    pub fn read(alloc: Global, line: &'a [u8]) -> Result<Case<'a>, Unanswered> {
+        let fields: Vec<&'a str> = ascii(line)?.split(';').collect(alloc)?;
+        let [shape, hidden, room, first, second, contract] = fields.as_slice() else {
+            return Err(Unanswered::Unclear);
         };
-        match fields.next() {
-            None => Some(case),
-            Some(_) => None,
-        }
-    }
-}
-
-fn shape_of(field: &str) -> Option<Shape> {
-    let [digit] = field.as_bytes() else {
-        return None;
-    };
-    match *digit {
-        b'0' => Some(Shape::Plain),
-        b'1' => Some(Shape::Hidden),
-        b'2' => Some(Shape::Pair),
-        b'3' => Some(Shape::HiddenPair),
-        b'4' => Some(Shape::RenamedPair),
-        _ => None,
+        Ok(Case {
+            shape: read(shape)?,
+            hidden: NameSet(read(hidden)?),
+            room: read(room)?,
+            first,
+            second,
+            contract,
+        })
     }
 }

@@ -1,90 +1,65 @@
 // The piles that the cases name, judged against their contracts.
-use crate::answer::{Answer, Judged};
 use crate::case::{Case, Shape};
+use crate::judged::Judged;
+use labels::NameSet;
 use layers::parallel::Parallel;
 use layers::relabel::Relabel;
 use layers::restrict::Restrict;
-use listed::Listed;
+use listed::lines::Unanswered;
+use listed::table_of;
 use source::source::Source;
 use source::table::Table;
 use std::alloc::{AllocError, Global};
+use std::array;
 
-pub fn answer_to(alloc: Global, line: &[u8]) -> Result<Answer, AllocError> {
-    let Some(case) = Case::parse(line) else {
-        return Ok(Answer::Unclear);
-    };
-    let Some(first) = Listed::read(alloc, case.texts[0])? else {
-        return Ok(Answer::Unread);
-    };
-    let Some(contract) = Listed::read(alloc, case.texts[2])? else {
-        return Ok(Answer::Unread);
+// The contract that a pile is judged against, and how many bytes the workspace has.
+#[derive(Clone, Copy)]
+struct Contract<'a> {
+    alloc: Global,
+    table: Table<'a>,
+    room: u32,
+}
+
+impl Contract<'_> {
+    fn judge<S: Source>(&self, module: &S) -> Result<Judged, Unanswered> {
+        Ok(Judged::of(self.alloc, module, &self.table, self.room)?)
+    }
+}
+
+pub fn answer_to(alloc: Global, line: &[u8]) -> Result<Judged, Unanswered> {
+    let case = Case::read(alloc, line)?;
+    let first = table_of(alloc, case.first)?;
+    // Only a pair has a second table.
+    let second = table_of(alloc, case.second);
+    let other = table_of(alloc, case.contract)?;
+    let contract = Contract {
+        alloc,
+        table: other.table(),
+        room: case.room,
     };
     let names = case.hidden;
-    let inner = first.table();
+    let left = first.table();
     match case.shape {
-        Shape::Plain => judged(alloc, &case, &inner, contract.table()),
-        Shape::Hidden => judged(alloc, &case, &Restrict { names, inner }, contract.table()),
-        _ => beside(alloc, &case, inner, contract.table()),
+        Shape::Plain => contract.judge(&left),
+        Shape::Hidden => contract.judge(&hidden(names, left)),
+        Shape::Pair => contract.judge(&beside(left, second?.table())),
+        Shape::HiddenPair => contract.judge(&hidden(names, beside(left, second?.table()))),
+        Shape::RenamedPair => {
+            contract.judge(&backwards(hidden(names, beside(left, second?.table())))?)
+        }
     }
 }
 
-fn beside(
-    alloc: Global,
-    case: &Case<'_>,
-    left: Table<'_>,
-    contract: Table<'_>,
-) -> Result<Answer, AllocError> {
-    let Some(second) = Listed::read(alloc, case.texts[1])? else {
-        return Ok(Answer::Unread);
-    };
-    let pair = Parallel {
-        left,
-        right: second.table(),
-    };
-    match case.shape {
-        Shape::Plain | Shape::Hidden | Shape::Pair => judged(alloc, case, &pair, contract),
-        Shape::HiddenPair => hidden(alloc, case, pair, contract),
-        Shape::RenamedPair => renamed(alloc, case, pair, contract),
-    }
+fn hidden<S>(names: NameSet, inner: S) -> Restrict<S> {
+    Restrict { names, inner }
 }
 
-fn hidden<S: Source + Drop>(
-    alloc: Global,
-    case: &Case<'_>,
-    inner: S,
-    contract: Table<'_>,
-) -> Result<Answer, AllocError> {
-    let names = case.hidden;
-    judged(alloc, case, &Restrict { names, inner }, contract)
+fn beside<L, R>(left: L, right: R) -> Parallel<L, R> {
+    Parallel { left, right }
 }
 
-fn renamed<S: Source + Drop>(
-    alloc: Global,
-    case: &Case<'_>,
-    inner: S,
-    contract: Table<'_>,
-) -> Result<Answer, AllocError> {
-    let names = case.hidden;
-    match Relabel::new(backwards(), Restrict { names, inner }) {
-        Ok(module) => judged(alloc, case, &module, contract),
-        Err(_) => Ok(Answer::Unread),
-    }
-}
-
-// The map in which name k becomes 31 - k.
-fn backwards() -> [u8; 32] {
-    let mut map = [0; 32];
-    for name in 0..32u8 {
-        map[name as usize] = 31 - name;
-    }
-    map
-}
-
-fn judged<S: Source>(
-    alloc: Global,
-    case: &Case<'_>,
-    module: &S,
-    contract: Table<'_>,
-) -> Result<Answer, AllocError> {
-    Ok(Answer::Judged(Judged::of(alloc, module, &contract, case.room)?))
+// In which name k becomes 31 - k.
+fn backwards<S: Source + Drop>(inner: S) -> Result<Relabel<S>, Unanswered> {
+    let map = array::from_fn(|name| 31 - name as u8);
+    Relabel::new(map, inner).map_err(|_| Unanswered::Unread)
 }

@@ -1,8 +1,9 @@
 // What a call leaves, as one line.
 use crate::case::{Call, Case};
 use installer::{verdict_line, verdict_line_of_input};
-use listed::shown::show_bytes;
-use std::alloc::{AllocError, Global};
+use listed::lines::Unanswered;
+use listed::shown::Bytes;
+use std::alloc::Global;
 use std::fmt;
 
 // What both buffers hold before the call, so that untouched bytes show.
@@ -16,10 +17,11 @@ pub struct Answer {
 }
 
 impl Answer {
-    pub fn to(heap: Global, case: &Case) -> Result<Answer, AllocError> {
+    pub fn to(heap: Global, line: &[u8]) -> Result<Answer, Unanswered> {
+        let case = Case::read(heap, line)?;
         let mut workspace = vec![in heap; UNTOUCHED; case.room as usize]?;
         let mut line = vec![in heap; UNTOUCHED; case.buffer as usize]?;
-        let length = call(case, workspace.as_mut_slice(), line.as_mut_slice());
+        let length = make(&case.call, workspace.as_mut_slice(), line.as_mut_slice());
         Ok(Answer {
             length,
             line,
@@ -28,16 +30,12 @@ impl Answer {
     }
 }
 
-fn call(case: &Case, workspace: &mut [u8], line: &mut [u8]) -> usize {
-    let bytes = case.bytes.as_slice();
-    match case.call {
-        Call::Texts(first) if first <= bytes.len() => verdict_line(
-            &bytes[0..first],
-            &bytes[first..],
-            workspace,
-            line,
-        ),
-        _ => verdict_line_of_input(bytes, workspace, line),
+fn make(call: &Call, workspace: &mut [u8], line: &mut [u8]) -> usize {
+    match call {
+        Call::Texts(module, contract) => {
+            verdict_line(module.as_slice(), contract.as_slice(), workspace, line)
+        }
+        Call::Input(bytes) => verdict_line_of_input(bytes.as_slice(), workspace, line),
     }
 }
 
@@ -45,8 +43,7 @@ impl fmt::Display for Answer {
     fn fmt<W: fmt::Write>(&self, f: &mut fmt::Formatter<W>) -> fmt::Result {
         write!(f, "{};", self.length)?;
         show_line(self.line.as_slice(), f)?;
-        write!(f, ";")?;
-        show_bytes(self.workspace.as_slice(), f)
+        write!(f, ";{}", Bytes(self.workspace.as_slice()))
     }
 }
 

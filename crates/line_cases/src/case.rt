@@ -1,13 +1,15 @@
 // A case is a line CALL,ROOM,BUFFER,FIRST,TEXT: which call, the lengths of workspace and line buffer, and the texts.
+use listed::fields::{ascii, read};
+use listed::lines::Unanswered;
 use listed::one_line::decode;
-use std::alloc::{AllocError, Global};
+use std::alloc::Global;
 
-#[derive(Clone, Copy)]
+#[derive(Drop)]
 pub enum Call {
-    // Two texts, of which the first has so many bytes.
-    Texts(usize),
+    // Two texts, the module's first.
+    Texts(Vec<u8>, Vec<u8>),
     // One input that holds both.
-    Input,
+    Input(Vec<u8>),
 }
 
 #[derive(Drop)]
@@ -15,65 +17,35 @@ pub struct Case {
     pub call: Call,
     pub room: u32,
     pub buffer: u32,
-    pub bytes: Vec<u8>,
 }
 
 impl Case {
-    pub fn parse(heap: Global, line: &[u8]) -> Result<Option<Case>, AllocError> {
-        let Some(parts) = Parts::of(line) else {
-            return Ok(None);
+    pub fn read(heap: Global, line: &[u8]) -> Result<Case, Unanswered> {
+        let fields: Vec<&[u8]> = line.splitn(5, |byte| *byte == b',').collect(heap)?;
+        let [call, room, buffer, first, text] = fields.as_slice() else {
+            return Err(Unanswered::Unclear);
         };
-        let bytes = decode(heap, parts.text)?;
-        let call = match parts.call {
-            1 => Call::Texts(parts.first as usize),
-            2 => Call::Input,
-            _ => return Ok(None),
-        };
-        if parts.first as usize > bytes.len() {
-            return Ok(None);
-        }
-        Ok(Some(Case {
-            call,
-            room: parts.room,
-            buffer: parts.buffer,
-            bytes,
-        }))
-    }
-}
-
-// The numbers of a line, and its text as it stands there.
-#[derive(Clone, Copy)]
-struct Parts<'a> {
-    call: u32,
-    room: u32,
-    buffer: u32,
-    first: u32,
-    text: &'a [u8],
-}
-
-impl<'a> Parts<'a> {
-    fn of(line: &'a [u8]) -> Option<Parts<'a>> {
-        let (call, rest) = number(line)?;
-        let (room, rest) = number(rest)?;
-        let (buffer, rest) = number(rest)?;
-        let (first, text) = number(rest)?;
-        Some(Parts {
-            call,
-            room,
-            buffer,
-            first,
-            text,
+        Ok(Case {
+            call: call_of(number(call)?, number(first)?, decode(heap, text)?)?,
+            room: number(room)?,
+            buffer: number(buffer)?,
         })
     }
 }
 
-// The number before the first comma, and what follows that.
-fn number(line: &[u8]) -> Option<(u32, &[u8])> {
-    for (at, byte) in line.iter().enumerate() {
-        if *byte == b',' {
-            let digits = std::str::from_utf8(&line[0..at]).ok()?;
-            return Some((digits.parse::<u32>().ok()?, &line[at + 1..]));
+// The call of this number, on bytes of which so many are the first text.
+fn call_of(call: u32, first: u32, mut bytes: Vec<u8>) -> Result<Call, Unanswered> {
+    let first = first as usize;
+    match call {
+        1 if first <= bytes.len() => {
+            let second = bytes.split_off(first)?;
+            Ok(Call::Texts(bytes, second))
         }
+        2 if first <= bytes.len() => Ok(Call::Input(bytes)),
+        _ => Err(Unanswered::Unclear),
     }
-    None
+}
+
+fn number(field: &[u8]) -> Result<u32, Unanswered> {
+    read(ascii(field)?)
 }

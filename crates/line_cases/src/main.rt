@@ -5,18 +5,10 @@ mod answer;
 mod case;
 
 use answer::Answer;
-use case::Case;
+use listed::lines::answer_lines;
 use std::io;
-use std::io::{BufRead, BufReader, BufWriter, Write};
 
 fn main(rt: HostRuntime) -> io::Result<()> {
     let heap = rt.alloc();
-    let mut out = BufWriter::new(heap, rt.stdout())?;
-    for line in BufReader::new(heap, rt.stdin())?.split(heap, b'\n') {
-        match Case::parse(heap, line?.as_slice())? {
-            Some(case) => writeln!(out, "{}", Answer::to(heap, &case)?)?,
-            None => writeln!(out, "unclear")?,
-        }
-    }
-    out.flush()
+    answer_lines(&rt, |line| Answer::to(heap, line))
 }

@@ -1,4 +1,4 @@
-//! Counterexamples and the bytes of a buffer, as the cases show them.
+//! Bytes and counterexamples, as the cases show them.
 
 use clauses::counterexample::Counterexample;
 use labels::NAMES;
@@ -7,57 +7,63 @@ use std::fmt;
 // More bytes are shown by a hash of them.
 const SHOWN: usize = 400;
 
-// FNV-1a of 64 bits.
+// FNV-1a of 64 bits: what it begins with, and what it multiplies by.
+const BASIS: u64 = 0xcbf2_9ce4_8422_2325;
+const PRIME: u64 = 0x100_0000_01b3;
+
 pub fn hash(bytes: &[u8]) -> u64 {
-    let mut hash: u64 = 0xcbf2_9ce4_8422_2325;
-    for byte in bytes {
-        hash = (hash ^ *byte as u64).wrapping_mul(0x100_0000_01b3);
-    }
-    hash
+    bytes
+        .iter()
+        .fold(BASIS, |hash, byte| (hash ^ *byte as u64).wrapping_mul(PRIME))
 }
 
-// Numbers with blanks between them, or `#` and the hash of many bytes.
-pub fn show_bytes<W: fmt::Write>(bytes: &[u8], f: &mut fmt::Formatter<W>) -> fmt::Result {
-    if bytes.len() > SHOWN {
-        return write!(f, "#{:016x}", hash(bytes));
-    }
-    for (i, byte) in bytes.iter().enumerate() {
-        if i > 0 {
-            write!(f, " ")?;
+/// Numbers with blanks between them, or `#` and the hash of many bytes.
+#[derive(Clone, Copy)]
+pub struct Bytes<'a>(pub &'a [u8]);
+
+impl fmt::Display for Bytes<'_> {
+    fn fmt<W: fmt::Write>(&self, f: &mut fmt::Formatter<W>) -> fmt::Result {
+        if self.0.len() > SHOWN {
+            return write!(f, "#{:016x}", hash(self.0));
         }
-        write!(f, "{byte}")?;
+        if let Some((first, others)) = self.0.split_first() {
+            write!(f, "{first}")?;
+            for byte in others {
+                write!(f, " {byte}")?;
+            }
+        }
+        Ok(())
     }
-    Ok(())
 }
 
-// The clause, the way and the name of the label where there is one, and the state.
-pub fn show_counterexample<W: fmt::Write>(
-    counterexample: Counterexample,
-    f: &mut fmt::Formatter<W>,
-) -> fmt::Result {
-    match counterexample {
-        Counterexample::Move { label, state } => {
-            write!(f, "1,")?;
-            show_label(label, f)?;
-            write!(f, ",{state}")
+/// The clause, the way and the name of the label where there is one, and the state.
+#[derive(Clone, Copy)]
+pub struct Failing(pub Counterexample);
+
+impl fmt::Display for Failing {
+    fn fmt<W: fmt::Write>(&self, f: &mut fmt::Formatter<W>) -> fmt::Result {
+        match self.0 {
+            Counterexample::Move { label, state } => write!(f, "1,{},{state}", Label(label)),
+            Counterexample::Rest {
+                label: Some(label),
+                state,
+            } => write!(f, "2,{},{state}", Label(label)),
+            Counterexample::Rest { label: None, state } => write!(f, "2,,,{state}"),
         }
-        Counterexample::Rest {
-            label: Some(label),
-            state,
-        } => {
-            write!(f, "2,")?;
-            show_label(label, f)?;
-            write!(f, ",{state}")
-        }
-        Counterexample::Rest { label: None, state } => write!(f, "2,,,{state}"),
     }
 }
 
 // The way and the name, with a comma between them.
-fn show_label<W: fmt::Write>(label: u8, f: &mut fmt::Formatter<W>) -> fmt::Result {
-    if label < NAMES {
-        write!(f, "?,{label}")
-    } else {
-        write!(f, "!,{}", label - NAMES)
+#[derive(Clone, Copy)]
+struct Label(u8);
+
+impl fmt::Display for Label {
+    fn fmt<W: fmt::Write>(&self, f: &mut fmt::Formatter<W>) -> fmt::Result {
+        let label = self.0;
+        if label < NAMES {
+            write!(f, "?,{label}")
+        } else {
+            write!(f, "!,{}", label - NAMES)
+        }
     }
 }

@@ -1,11 +1,9 @@
 #![tactic(auto)]
 
 // Takes calls on a house from the input, one to a line, makes them in a new house, and prints a statement of them.
-mod file;
 mod script;
 mod statement;
 mod whole;
-mod words;
 
 use calls::{Nobody, Reply};
 use replay::replay;
@@ -19,7 +17,7 @@ fn run(rt: &HostRuntime) -> anyhow::Result<()> {
     let alloc = rt.alloc();
     let items = script::read(rt)?;
     let requests = script::requests(alloc, items.as_slice())?;
-    let mut replies = vec![in alloc; Reply::Done; requests.len()]?;
+    let mut replies = vec![in alloc; Ok(Reply::Done); requests.len()]?;
     let house = replay::<Nobody>(requests.as_slice(), replies.as_mut_slice());
     let statement = Statement {
         items: items.as_slice(),

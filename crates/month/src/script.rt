@@ -1,24 +1,31 @@
 // What the lines of the input ask for, with the texts of the files that they name.
-use crate::file;
-use calls::{Pile, Request};
-use commands::{Command, Line, parse};
+use calls::Request;
+use commands::{Command, Unclear, parse};
+use console::input::read_file;
 use replay::MOST_ROOM;
 use std::alloc::{AllocError, Global};
 use std::io;
 use std::io::{BufRead, BufReader};
 
+// Why a line makes no call.
 #[derive(Drop)]
-pub enum Step {
-    // The line is no call.
+pub enum NoCall {
+    // Its words make none.
     Unclear,
-    // The file cannot be read.
+    // The file that it names cannot be read.
     Unread(io::Error),
-    // The text of a table.
-    Enter(Vec<u8>),
-    Seat(u8, u8),
-    Fit(u8, Pile),
-    Unfit(u8),
-    Clear(u8),
+}
+
+impl From<Unclear> for NoCall {
+    fn from(_unclear: Unclear) -> NoCall {
+        NoCall::Unclear
+    }
+}
+
+impl From<io::Error> for NoCall {
+    fn from(error: io::Error) -> NoCall {
+        NoCall::Unread(error)
+    }
 }
 
 // A line that is not blank, with its number.
@@ -26,73 +33,50 @@ pub enum Step {
 pub struct Item {
     pub at: u64,
     pub line: Vec<u8>,
-    pub step: Step,
+    pub call: Result<Request<Vec<u8>>, NoCall>,
 }
 
 pub fn read(rt: &HostRuntime) -> anyhow::Result<Vec<Item>> {
     let alloc = rt.alloc();
     let mut items = Vec::new(alloc);
-    let mut at = 0u64;
-    for line in BufReader::new(alloc, rt.stdin())?.split(alloc, b'\n') {
+    let lines = BufReader::new(alloc, rt.stdin())?.split(alloc, b'\n');
+    for (at, line) in (1u64..).zip(lines) {
         let line = line?;
-        at = at.saturating_add(1);
-        if let Some(step) = step_of(rt, line.as_slice()) {
-            items.push(Item { at, line, step })?;
+        if let Some(call) = call_of(rt, line.as_slice()).transpose() {
+            items.push(Item { at, line, call })?;
         }
     }
     Ok(items)
 }
 
 // What a line asks for; nothing if it is blank.
-fn step_of(rt: &HostRuntime, line: &[u8]) -> Option<Step> {
-    let Ok(words) = std::str::from_utf8(line) else {
-        return Some(Step::Unclear);
-    };
-    match parse(words) {
-        Line::Blank => None,
-        Line::Unclear => Some(Step::Unclear),
-        Line::Call(command) => Some(called(rt, command)),
+fn call_of(rt: &HostRuntime, line: &[u8]) -> Result<Option<Request<Vec<u8>>>, NoCall> {
+    let words = std::str::from_utf8(line).map_err(|_| Unclear)?;
+    match parse(words)? {
+        Some(command) => Ok(Some(request_of(rt, command)?)),
+        None => Ok(None),
     }
 }
 
-fn called(rt: &HostRuntime, command: Command<'_>) -> Step {
-    match command {
-        Command::Enter(name) => match file::read(rt, name) {
-            Ok(text) => Step::Enter(text),
-            Err(error) => Step::Unread(error),
-        },
-        Command::Seat(seat, contract) => Step::Seat(seat, contract),
-        Command::Fit(seat, table, helper, hidden) => Step::Fit(
-            seat,
-            Pile {
-                table,
-                helper,
-                hidden,
-            },
-        ),
-        Command::Unfit(seat) => Step::Unfit(seat),
-        Command::Clear(seat) => Step::Clear(seat),
-    }
+// A fit is lent as much workspace as any verdict wants.
+fn request_of(rt: &HostRuntime, command: Command<'_>) -> io::Result<Request<Vec<u8>>> {
+    Ok(match command {
+        Command::Enter(name) => Request::Enter(read_file(rt, name)?),
+        Command::Seat(seat, contract) => Request::Seat(seat, contract),
+        Command::Fit(seat, pile) => Request::Fit(seat, pile, MOST_ROOM),
+        Command::Unfit(seat) => Request::Unfit(seat),
+        Command::Clear(seat) => Request::Clear(seat),
+    })
 }
 
-// The calls, in order; a fit is lent as much workspace as any verdict wants.
-pub fn requests<'a>(alloc: Global, items: &'a [Item]) -> Result<Vec<Request<'a>>, AllocError> {
-    let mut requests = Vec::new(alloc);
-    for item in items {
-        if let Some(request) = request_of(&item.step) {
-            requests.push(request)?;
-        }
-    }
-    Ok(requests)
-}
-
-fn request_of<'a>(step: &'a Step) -> Option<Request<'a>> {
-    match step {
-        Step::Unclear | Step::Unread(_) => None,
-        Step::Enter(text) => Some(Request::Enter(text.as_slice())),
-        Step::Seat(seat, contract) => Some(Request::Seat(*seat, *contract)),
-        Step::Fit(seat, pile) => Some(Request::Fit(*seat, *pile, MOST_ROOM)),
-        Step::Unfit(seat) => Some(Request::Unfit(*seat)),
-        Step::Clear(seat) => Some(Request::Clear(*seat)),
-    }
+// The calls, in order.
+pub fn requests<'a>(
+    alloc: Global,
+    items: &'a [Item],
+) -> Result<Vec<Request<&'a [u8]>>, AllocError> {
+    items
+        .iter()
+        .filter_map(|item| item.call.as_ref().ok())
+        .map(|call| call.lent())
+        .collect(alloc)
 }

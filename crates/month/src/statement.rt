@@ -1,40 +1,50 @@
 // The statement: each call with what came of it, then the seats, and whether the house can get stuck.
-use crate::script::{Item, Step};
+use crate::script::{Item, NoCall};
 use crate::whole;
-use crate::words::{Act, Many, Names, Shown};
-use calls::{Pile, Reply, Seat};
+use calls::{Pile, Refusal, Reply, Seat};
+use console::shown::{Many, Shown};
 use house::House;
 use judge::verdict::Verdict;
-use labels::NameSet;
-use search::{StuckState, search};
-use source::refusal::Refusal;
-use source::table::Table;
+use labels::{NameSet, VisibleLabel};
+use search::{StuckState, search_alone};
+use source::refusal::Refusal as Unsearched;
 use std::io::ErrorKind;
 use std::{fmt, io};
+
+// What is told where no line asks for anything.
+const USAGE: &str = "\
+Each line of the input is a call:
+  enter FILE                       reads the table in FILE, and answers its number
+  seat SEAT TABLE                  puts a table on an empty seat, 0 to 5, as its contract
+  fit SEAT MODULE HELPER NAMES     fits a table at a seat if it keeps the contract, beside
+                                   a helper and without the names (each may be -)
+  unfit SEAT                       takes away what is fitted
+  clear SEAT                       empties the seat";
 
 #[derive(Clone, Copy)]
 pub struct Statement<'a> {
     pub items: &'a [Item],
-    pub replies: &'a [Reply],
+    // Of the calls among the items, in order.
+    pub replies: &'a [Result<Reply, Refusal>],
     pub house: &'a House,
 }
 
 impl fmt::Display for Statement<'_> {
     fn fmt<W: fmt::Write>(&self, f: &mut fmt::Formatter<W>) -> fmt::Result {
         if self.items.is_empty() {
-            return show_usage(f);
+            return f.write_str(USAGE);
         }
         let mut replies = self.replies.iter();
         for item in self.items {
-            match &item.step {
-                Step::Unclear => show_unclear(item, f)?,
-                Step::Unread(error) => show_unread(item, error, f)?,
-                _ => {
-                    writeln!(f, "{}", Shown(item.line.as_slice()))?;
+            match &item.call {
+                Ok(_) => {
+                    writeln!(f, "{}", Shown::line(item.line.as_slice()))?;
                     if let Some(reply) = replies.next() {
                         show_reply(self.house, reply, f)?;
                     }
                 }
+                Err(NoCall::Unclear) => show_unclear(item, f)?,
+                Err(NoCall::Unread(error)) => show_unread(item, error, f)?,
             }
         }
         writeln!(f)?;
@@ -45,38 +55,10 @@ impl fmt::Display for Statement<'_> {
     }
 }
 
-fn show_usage<W: fmt::Write>(f: &mut fmt::Formatter<W>) -> fmt::Result {
-    writeln!(f, "Each line of the input is a call:")?;
-    writeln!(
-        f,
-        "  enter FILE                       reads the table in FILE, and answers its number"
-    )?;
-    writeln!(
-        f,
-        "  seat SEAT TABLE                  puts a table on an empty seat, 0 to 5, as its contract"
-    )?;
-    writeln!(
-        f,
-        "  fit SEAT MODULE HELPER NAMES     fits a table at a seat if it keeps the contract, beside"
-    )?;
-    writeln!(
-        f,
-        "                                   a helper and without the names (each may be -)"
-    )?;
-    writeln!(
-        f,
-        "  unfit SEAT                       takes away what is fitted"
-    )?;
-    write!(f, "  clear SEAT                       empties the seat")
-}
-
 fn show_unclear<W: fmt::Write>(item: &Item, f: &mut fmt::Formatter<W>) -> fmt::Result {
-    writeln!(
-        f,
-        "line {} is no call: {}",
-        item.at,
-        Shown(item.line.as_slice())
-    )
+    let at = item.at;
+    let line = Shown::line(item.line.as_slice());
+    writeln!(f, "line {at} is no call: {line}")
 }
 
 fn show_unread<W: fmt::Write>(
@@ -84,7 +66,7 @@ fn show_unread<W: fmt::Write>(
     error: &io::Error,
     f: &mut fmt::Formatter<W>,
 ) -> fmt::Result {
-    writeln!(f, "{}", Shown(item.line.as_slice()))?;
+    writeln!(f, "{}", Shown::line(item.line.as_slice()))?;
     match error.kind() {
         ErrorKind::NotFound => writeln!(f, "  there is no such file"),
         _ => writeln!(f, "  the file cannot be read: {error}"),
@@ -93,14 +75,14 @@ fn show_unread<W: fmt::Write>(
 
 fn show_reply<W: fmt::Write>(
     house: &House,
-    reply: &Reply,
+    reply: &Result<Reply, Refusal>,
     f: &mut fmt::Formatter<W>,
 ) -> fmt::Result {
     match reply {
-        Reply::Entered(number) => show_table(house, *number, f),
-        Reply::Fitted(verdict) => show_verdict(verdict, f),
-        Reply::Done => writeln!(f, "  done"),
-        Reply::Refused(refusal) => writeln!(f, "  {refusal}"),
+        Ok(Reply::Entered(number)) => show_table(house, *number, f),
+        Ok(Reply::Fitted(verdict)) => show_verdict(verdict, f),
+        Ok(Reply::Done) => writeln!(f, "  done"),
+        Err(refusal) => writeln!(f, "  {refusal}"),
     }
 }
 
@@ -110,31 +92,18 @@ fn show_table<W: fmt::Write>(house: &House, number: u8, f: &mut fmt::Formatter<W
     };
     let states = Many(table.states as u64, "state");
     let moves = Many(table.moves.len() as u64, "move");
-    writeln!(
-        f,
-        "  table {number}: {states}, start {}, {moves}",
-        table.start
-    )?;
-    match stuck_alone(&table) {
+    let start = table.start;
+    writeln!(f, "  table {number}: {states}, start {start}, {moves}")?;
+    match search_alone(&table) {
         Some(found) => {
-            let label = Act(found.label);
+            let state = found.state;
+            let label = VisibleLabel(found.label);
             writeln!(
                 f,
-                "  alone it can get stuck in state {}, waiting for {label}",
-                found.state
+                "  alone it can get stuck in state {state}, waiting for {label}"
             )
         }
         None => writeln!(f, "  alone it cannot get stuck"),
-    }
-}
-
-// Where a table can get stuck if nobody answers on any name.
-fn stuck_alone(table: &Table<'_>) -> Option<StuckState> {
-    let mut sheet = [0; 255];
-    match search(table, NameSet(u32::MAX), &mut sheet) {
-        Ok(found) => found,
-        // There is room for any table, and one that is too large has no state to get stuck in.
-        Err(_) => None,
     }
 }
 
@@ -165,8 +134,8 @@ fn show_pile<W: fmt::Write>(pile: Pile, f: &mut fmt::Formatter<W>) -> fmt::Resul
     if let Some(helper) = pile.helper {
         write!(f, " beside table {helper}")?;
     }
-    if pile.hidden.0 != 0 {
-        write!(f, ", without the names {}", Names(pile.hidden))?;
+    if pile.hidden != NameSet(0) {
+        write!(f, ", without the names {}", pile.hidden)?;
     }
     writeln!(f)
 }
@@ -176,8 +145,7 @@ fn show_stuck<W: fmt::Write>(house: &House, f: &mut fmt::Formatter<W>) -> fmt::R
     let between = whole::names_between(house);
     write!(
         f,
-        "beside nobody, on the names between its seats ({}): ",
-        Names(between)
+        "beside nobody, on the names between its seats ({between}): "
     )?;
     show_found(whole::stuck_in(house, between), f)?;
     writeln!(f)?;
@@ -186,17 +154,17 @@ fn show_stuck<W: fmt::Write>(house: &House, f: &mut fmt::Formatter<W>) -> fmt::R
 }
 
 fn show_found<W: fmt::Write>(
-    found: Result<Option<StuckState>, Refusal>,
+    found: Result<Option<StuckState>, Unsearched>,
     f: &mut fmt::Formatter<W>,
 ) -> fmt::Result {
     match found {
         Ok(None) => write!(f, "the house cannot get stuck"),
         Ok(Some(stuck)) => {
-            let label = Act(stuck.label);
+            let state = stuck.state;
+            let label = VisibleLabel(stuck.label);
             write!(
                 f,
-                "the house can get stuck in state {}, waiting for {label}",
-                stuck.state
+                "the house can get stuck in state {state}, waiting for {label}"
             )
         }
         Err(refusal) => write!(

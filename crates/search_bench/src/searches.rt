@@ -6,6 +6,7 @@ use std::fmt;
 // How many searches found a state, and a sum over those states.
 #[derive(Clone, Copy)]
 pub struct Searches {
+    turns: u32,
     found: u32,
     sum: u64,
 }
@@ -13,18 +14,21 @@ pub struct Searches {
 impl Searches {
     // Searches the table of a text on one set of names after another.
     pub fn of(text: &[u8], turns: u32, moves: &mut [Move]) -> Searches {
-        let mut searches = Searches { found: 0, sum: 0 };
+        let mut searches = Searches {
+            turns,
+            found: 0,
+            sum: 0,
+        };
         let Ok(summary) = table::check(text).store(moves) else {
             return searches;
         };
-        let many = summary.moves;
-        if many > moves.len() {
+        let Some(moves) = moves.get(0..summary.moves) else {
             return searches;
-        }
+        };
         let table = Table {
             states: summary.states,
             start: summary.start,
-            moves: &moves[0..many],
+            moves,
         };
         for turn in 0..turns {
             // An odd factor, so that no two turns have the same names.
@@ -45,6 +49,7 @@ impl Searches {
 
 impl fmt::Display for Searches {
     fn fmt<W: fmt::Write>(&self, f: &mut fmt::Formatter<W>) -> fmt::Result {
-        write!(f, "found {}, sum {}", self.found, self.sum)
+        let Searches { turns, found, sum } = self;
+        write!(f, "searches {turns}, found {found}, sum {sum}")
     }
 }

@@ -1,6 +1,54 @@
 // A case is a line SHAPE;HIDDEN;MAP;NAMES;SHEET;TEXT;TEXT;TEXT.
-use crate::shape::Shape;
 use labels::NameSet;
+use listed::fields::{ascii, read};
+use listed::lines::Unanswered;
+use std::alloc::Global;
+use std::str::FromStr;
+
+// A pile of layers over one table, two or three.
+#[derive(Clone, Copy, PartialEq, Eq, Debug)]
+pub enum Shape {
+    // A table alone.
+    Plain,
+    // Restrict<table>
+    Hidden,
+    // Relabel<table>
+    Renamed,
+    // Parallel<&table, &table>, both the same
+    Twice,
+    // Parallel<table, table>
+    Pair,
+    // Restrict<Parallel<table, table>>
+    HiddenPair,
+    // Relabel<Restrict<Parallel<table, table>>>
+    RenamedHiddenPair,
+    // Parallel<Restrict<table>, Relabel<table>>
+    HiddenByRenamed,
+    // Parallel<Parallel<table, table>, table>
+    PairFirst,
+    // Restrict<Parallel<table, Restrict<Parallel<table, table>>>>
+    HiddenPairLast,
+}
+
+impl FromStr for Shape {
+    type Err = Unanswered;
+
+    fn from_str(field: &str) -> Result<Shape, Unanswered> {
+        match field {
+            "a" => Ok(Shape::Plain),
+            "b" => Ok(Shape::Hidden),
+            "c" => Ok(Shape::Renamed),
+            "d" => Ok(Shape::Pair),
+            "e" => Ok(Shape::HiddenPair),
+            "f" => Ok(Shape::RenamedHiddenPair),
+            "g" => Ok(Shape::HiddenByRenamed),
+            "h" => Ok(Shape::PairFirst),
+            "i" => Ok(Shape::HiddenPairLast),
+            "j" => Ok(Shape::Twice),
+            _ => Err(Unanswered::Unclear),
+        }
+    }
+}
 
 #[derive(Clone, Copy)]
 pub struct Case<'a> {
@@ -16,36 +64,27 @@ pub struct Case<'a> {
 }
 
 impl<'a> Case<'a> {
-    pub fn parse(line: &'a [u8]) -> Option<Case<'a>> {
-        let words = std::str::from_utf8(line).ok()?;
-        if !words.is_ascii() {
-            return None;
-        }
-        let mut fields = words.split(';');
-        let case = Case {
-            shape: Shape::parse(fields.next()?)?,
-            hidden: NameSet(fields.next()?.parse::<u32>().ok()?),
-            map: map_of(fields.next()?)?,
-            names: NameSet(fields.next()?.parse::<u32>().ok()?),
-            sheet: fields.next()?.parse::<u16>().ok()?,
-            texts: [fields.next()?, fields.next()?, fields.next()?],
+    pub fn read(alloc: Global, line: &'a [u8]) -> Result<Case<'a>, Unanswered> {
+        let fields: Vec<&'a str> = ascii(line)?.split(';').collect(alloc)?;
+        let [shape, hidden, map, names, sheet, first, second, third] = fields.as_slice() else {
+            return Err(Unanswered::Unclear);
         };
-        match fields.next() {
-            None => Some(case),
-            Some(_) => None,
-        }
+        Ok(Case {
+            shape: read(shape)?,
+            hidden: NameSet(read(hidden)?),
+            map: map_of(alloc, map)?,
+            names: NameSet(read(names)?),
+            sheet: read(sheet)?,
+            texts: [first, second, third],
+        })
     }
 }
 
 // Just 32 numbers with commas between them.
-fn map_of(field: &str) -> Option<[u8; 32]> {
-    let mut map = [0; 32];
-    let mut numbers = field.split(',');
-    for name in map.iter_mut() {
-        *name = numbers.next()?.parse::<u8>().ok()?;
-    }
-    match numbers.next() {
-        None => Some(map),
-        Some(_) => None,
-    }
+fn map_of(alloc: Global, field: &str) -> Result<[u8; 32], Unanswered> {
+    let numbers: Vec<u8> = field
+        .split(',')
+        .map(|number| read::<u8>(number))
+        .try_collect(alloc)?;
+    <[u8; 32]>::try_from(numbers).map_err(|_| Unanswered::Unclear)
 }

@@ -1,20 +1,14 @@
 #![tactic(auto)]
 
 // Builds the pile of layers that each line of the input names, and writes what it answers to every question.
-mod answer;
 mod case;
 mod piles;
-mod shape;
+mod told;
 
+use listed::lines::answer_lines;
 use std::io;
-use std::io::{BufRead, BufReader, BufWriter, Write};
 
 fn main(rt: HostRuntime) -> io::Result<()> {
     let alloc = rt.alloc();
-    let mut out = BufWriter::new(alloc, rt.stdout())?;
-    for line in BufReader::new(alloc, rt.stdin())?.split(alloc, b'\n') {
-        let answer = piles::answer_to(alloc, line?.as_slice())?;
-        writeln!(out, "{answer}")?;
-    }
-    out.flush()
+    answer_lines(&rt, |line| piles::answer_to(alloc, line))
 }

@@ -1,81 +1,41 @@
-// The piles of layers that the cases name, and the answer of each.
-use crate::answer::{Answer, Told};
-use crate::case::Case;
-use crate::shape::{Double, Shape, Single, Triple};
+// The piles of layers that the cases name, and what each answers.
+use crate::case::{Case, Shape};
+use crate::told::Told;
 use layers::parallel::Parallel;
 use layers::relabel::Relabel;
 use layers::restrict::Restrict;
-use listed::Listed;
+use listed::lines::Unanswered;
+use listed::table_of;
 use source::source::Source;
-use std::alloc::{AllocError, Global};
+use std::alloc::Global;
 
-pub fn answer_to(alloc: Global, line: &[u8]) -> Result<Answer, AllocError> {
-    let Some(case) = Case::parse(line) else {
-        return Ok(Answer::Unclear);
-    };
+pub fn answer_to(alloc: Global, line: &[u8]) -> Result<Told, Unanswered> {
+    let case = Case::read(alloc, line)?;
+    // A shape has one table, two or three, and only those need to read.
+    let first = table_of(alloc, case.texts[0])?;
+    let second = table_of(alloc, case.texts[1]);
+    let third = table_of(alloc, case.texts[2]);
+    let a = first.table();
     match case.shape {
-        Shape::Single(shape) => over_one(alloc, &case, shape),
-        Shape::Double(shape) => over_two(alloc, &case, shape),
-        Shape::Triple(shape) => over_three(alloc, &case, shape),
-    }
-}
-
-fn over_one(alloc: Global, case: &Case<'_>, shape: Single) -> Result<Answer, AllocError> {
-    let Some(first) = Listed::read(alloc, case.texts[0])? else {
-        return Ok(Answer::Unread);
-    };
-    let table = first.table();
-    match shape {
-        Single::Plain => answer(alloc, case, &table),
-        Single::Hidden => answer(alloc, case, &hidden(case, table)),
-        Single::Renamed => renamed(alloc, case, table),
-        Single::Twice => answer(alloc, case, &beside(&table, &table)),
-    }
-}
-
-fn over_two(alloc: Global, case: &Case<'_>, shape: Double) -> Result<Answer, AllocError> {
-    let Some(first) = Listed::read(alloc, case.texts[0])? else {
-        return Ok(Answer::Unread);
-    };
-    let Some(second) = Listed::read(alloc, case.texts[1])? else {
-        return Ok(Answer::Unread);
-    };
-    let left = first.table();
-    let right = second.table();
-    match shape {
-        Double::Pair => answer(alloc, case, &beside(left, right)),
-        Double::HiddenPair => answer(alloc, case, &hidden(case, beside(left, right))),
-        Double::RenamedHiddenPair => renamed(alloc, case, hidden(case, beside(left, right))),
-        Double::HiddenByRenamed => hidden_by_renamed(alloc, case, left, right),
-    }
-}
-
-fn over_three(alloc: Global, case: &Case<'_>, shape: Triple) -> Result<Answer, AllocError> {
-    let Some(first) = Listed::read(alloc, case.texts[0])? else {
-        return Ok(Answer::Unread);
-    };
-    let Some(second) = Listed::read(alloc, case.texts[1])? else {
-        return Ok(Answer::Unread);
-    };
-    let Some(third) = Listed::read(alloc, case.texts[2])? else {
-        return Ok(Answer::Unread);
-    };
-    match shape {
-        Triple::PairFirst => {
-            let pair = beside(first.table(), second.table());
-            answer(alloc, case, &beside(pair, third.table()))
+        Shape::Plain => case.ask(alloc, &a),
+        Shape::Hidden => case.ask(alloc, &case.hide(a)),
+        Shape::Renamed => case.ask(alloc, &case.rename(a)?),
+        Shape::Twice => case.ask(alloc, &beside(&a, &a)),
+        Shape::Pair => case.ask(alloc, &beside(a, second?.table())),
+        Shape::HiddenPair => case.ask(alloc, &case.hide(beside(a, second?.table()))),
+        Shape::RenamedHiddenPair => {
+            case.ask(alloc, &case.rename(case.hide(beside(a, second?.table())))?)
         }
-        Triple::HiddenPairLast => {
-            let pair = hidden(case, beside(second.table(), third.table()));
-            answer(alloc, case, &hidden(case, beside(first.table(), pair)))
+        Shape::HiddenByRenamed => {
+            case.ask(alloc, &beside(case.hide(a), case.rename(second?.table())?))
         }
-    }
-}
-
-fn hidden<S>(case: &Case<'_>, inner: S) -> Restrict<S> {
-    Restrict {
-        names: case.hidden,
-        inner,
+        Shape::PairFirst => { case.ask(alloc, &beside(beside(a, second?.table()), third?.table())) }
+        Shape::HiddenPairLast => {
+            case.ask(
+                alloc,
+                &case.hide(beside(a, case.hide(beside(second?.table(), third?.table())))),
+            )
+        }
     }
 }
 
@@ -83,30 +43,19 @@ fn beside<L, R>(left: L, right: R) -> Parallel<L, R> {
     Parallel { left, right }
 }
 
-fn renamed<S: Source + Drop>(
-    alloc: Global,
-    case: &Case<'_>,
-    inner: S,
-) -> Result<Answer, AllocError> {
-    match Relabel::new(case.map, inner) {
-        Ok(pile) => answer(alloc, case, &pile),
-        Err(bad) => Ok(Answer::Refused(bad.number())),
+impl Case<'_> {
+    fn hide<S>(&self, inner: S) -> Restrict<S> {
+        Restrict {
+            names: self.hidden,
+            inner,
+        }
     }
-}
 
-fn hidden_by_renamed<L: Source + Drop, R: Source + Drop>(
-    alloc: Global,
-    case: &Case<'_>,
-    left: L,
-    right: R,
-) -> Result<Answer, AllocError> {
-    match Relabel::new(case.map, right) {
-        Ok(right) => answer(alloc, case, &beside(hidden(case, left), right)),
-        Err(bad) => Ok(Answer::Refused(bad.number())),
+    fn rename<S: Source + Drop>(&self, inner: S) -> Result<Relabel<S>, Unanswered> {
+        Ok(Relabel::new(self.map, inner)?)
     }
-}
 
-fn answer<S: Source>(alloc: Global, case: &Case<'_>, source: &S) -> Result<Answer, AllocError> {
-    let told = Told::by(alloc, source, case.names, case.sheet)?;
-    Ok(Answer::Told(told))
+    fn ask<S: Source>(&self, alloc: Global, source: &S) -> Result<Told, Unanswered> {
+        Ok(Told::by(alloc, source, self.names, self.sheet)?)
+    }
 }

@@ -4,13 +4,20 @@ use std::fmt;
 // How often the text was read, and a sum that takes in one move of each reading.
 #[derive(Clone, Copy)]
 pub struct Tally {
+    turns: u64,
+    bytes: usize,
     read: u64,
     sum: u64,
 }
 
 impl Tally {
     pub fn of(text: &[u8], turns: u64, moves: &mut [Move]) -> Tally {
-        let mut tally = Tally { read: 0, sum: 0 };
+        let mut tally = Tally {
+            turns,
+            bytes: text.len(),
+            read: 0,
+            sum: 0,
+        };
         for turn in 0..turns {
             if let Ok(summary) = table::check(text).store(moves) {
                 tally.take(moves, turn, summary.moves as u64);
@@ -34,6 +41,12 @@ impl Tally {
 
 impl fmt::Display for Tally {
     fn fmt<W: fmt::Write>(&self, f: &mut fmt::Formatter<W>) -> fmt::Result {
-        write!(f, "read {}, sum {}", self.read, self.sum)
+        let Tally {
+            turns,
+            bytes,
+            read,
+            sum,
+        } = self;
+        write!(f, "texts {turns}, bytes {bytes}, read {read}, sum {sum}")
     }
 }

@@ -24,17 +24,6 @@ const UNTOUCHED: u8 = 7;
 const SHOWN: usize = 300;
 
 #[derive(Drop)]
-pub enum Answer {
-    // The line is no case.
-    Unclear,
-    // A text of the pile does not read.
-    Unread,
-    // The pile cannot be made, with the refusal's number.
-    Refused(u8),
-    Told(Told),
-}
-
-#[derive(Drop)]
 pub struct Told {
     size: u16,
     start: usize,
@@ -51,7 +40,7 @@ struct State {
 }
 
 // How many moves there are, and a sum in which each has its place.
-#[derive(Clone, Copy)]
+#[derive(Clone, Copy, Default)]
 struct Moves {
     many: u64,
     sum: u32,
@@ -108,7 +97,7 @@ fn states_of<S: Source>(alloc: Global, source: &S, last: u16) -> Result<Vec<Stat
 }
 
 fn moves_of<S: Source>(source: &S, last: u16) -> Moves {
-    let mut moves = Moves { many: 0, sum: 0 };
+    let mut moves = Moves::default();
     for from in 0..=last {
         for label in 0..ASKED_LABELS {
             for to in 0..=last {
@@ -119,17 +108,6 @@ fn moves_of<S: Source>(source: &S, last: u16) -> Moves {
         }
     }
     moves
-}
-
-impl fmt::Display for Answer {
-    fn fmt<W: fmt::Write>(&self, f: &mut fmt::Formatter<W>) -> fmt::Result {
-        match self {
-            Answer::Unclear => write!(f, "unclear"),
-            Answer::Unread => write!(f, "unread"),
-            Answer::Refused(number) => write!(f, "refused,{number}"),
-            Answer::Told(told) => write!(f, "{told}"),
-        }
-    }
 }
 
 impl fmt::Display for Told {

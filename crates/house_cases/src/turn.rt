@@ -1,0 +1,110 @@
+// What comes of a call, and what is on the seats after it.
+use calls::{Pile, Refusal, Reply, Request, Seat};
+use house::House;
+use listed::shown::{Failing, hash};
+use std::alloc::{AllocError, Global};
+use std::{array, fmt};
+
+// What a workspace holds before it is lent, so that untouched bytes show.
+const UNTOUCHED: u8 = 7;
+
+#[derive(Clone, Copy)]
+pub struct Turn {
+    reply: Result<Reply, Refusal>,
+    // A hash of the workspace that a fit was lent.
+    workspace: Option<u64>,
+    seats: [Seat; 6],
+}
+
+impl Turn {
+    pub fn make(
+        heap: Global,
+        house: &mut House,
+        call: &Request<Vec<u8>>,
+    ) -> Result<Turn, AllocError> {
+        let mut workspace = None;
+        let reply = match call {
+            Request::Enter(text) => house.enter(text.as_slice()).map(Reply::Entered),
+            Request::Seat(seat, contract) => house.seat(*seat, *contract).map(|()| Reply::Done),
+            Request::Fit(seat, pile, room) => {
+                let mut bytes = vec![in heap; UNTOUCHED; *room]?;
+                let verdict = house.fit(*seat, *pile, bytes.as_mut_slice());
+                workspace = Some(hash(bytes.as_slice()));
+                verdict.map(Reply::Fitted)
+            }
+            Request::Unfit(seat) => house.unfit(*seat).map(|()| Reply::Done),
+            Request::Clear(seat) => house.clear(*seat).map(|()| Reply::Done),
+        };
+        Ok(Turn {
+            reply,
+            workspace,
+            seats: seats_of(house),
+        })
+    }
+}
+
+fn seats_of(house: &House) -> [Seat; 6] {
+    array::from_fn(|seat| house.at(seat as u8).unwrap_or(Seat::Empty))
+}
+
+impl fmt::Display for Turn {
+    fn fmt<W: fmt::Write>(&self, f: &mut fmt::Formatter<W>) -> fmt::Result {
+        match self.reply {
+            Ok(reply) => show_reply(reply, f)?,
+            Err(refusal) => show_refusal(refusal, f)?,
+        }
+        if let Some(hash) = self.workspace {
+            write!(f, " #{hash:016x}")?;
+        }
+        f.write_str(" |")?;
+        for seat in self.seats {
+            show_seat(seat, f)?;
+        }
+        Ok(())
+    }
+}
+
+fn show_reply<W: fmt::Write>(reply: Reply, f: &mut fmt::Formatter<W>) -> fmt::Result {
+    match reply {
+        Reply::Entered(number) => write!(f, "table,{number}"),
+        Reply::Fitted(verdict) => {
+            let (states, others) = (verdict.states, verdict.others);
+            let (highest, standing) = (verdict.highest, verdict.standing);
+            write!(f, "yes,{states},{others},{highest},{standing}")
+        }
+        Reply::Done => write!(f, "done"),
+    }
+}
+
+fn show_refusal<W: fmt::Write>(refusal: Refusal, f: &mut fmt::Formatter<W>) -> fmt::Result {
+    write!(f, "refused,{}", refusal.number())?;
+    match refusal {
+        Refusal::Text(fault) => write!(f, ",{},{}", fault.line(), fault.field()),
+        Refusal::NoPlace => write!(f, ",0,0"),
+        Refusal::DoesNotConform {
+            round,
+            counterexample,
+        } => write!(f, ",{round},{}", Failing(counterexample)),
+        _ => Ok(()),
+    }
+}
+
+// With a blank before it.
+fn show_seat<W: fmt::Write>(seat: Seat, f: &mut fmt::Formatter<W>) -> fmt::Result {
+    match seat {
+        Seat::Empty => write!(f, " -"),
+        Seat::Contract(contract) => write!(f, " {contract}"),
+        Seat::Fitted(contract, pile) => {
+            write!(f, " {contract}:")?;
+            show_pile(pile, f)
+        }
+    }
+}
+
+fn show_pile<W: fmt::Write>(pile: Pile, f: &mut fmt::Formatter<W>) -> fmt::Result {
+    let (table, hidden) = (pile.table, pile.hidden.0);
+    match pile.helper {
+        None => write!(f, "{table},-,{hidden}"),
+        Some(helper) => write!(f, "{table},{helper},{hidden}"),
+    }
+}
