@@ -1,21 +1,17 @@
 #![tactic(auto)]
 
 // Prints the verdict on the two tables in the standard input, as one line.
+use console::input::read_text;
 use installer::{LINE_ROOM, verdict_line_of_input};
 use std::io;
-use std::io::{Read, Write};
-use table::LONGEST;
-
-// One byte past the longest input is enough to know that it is too long.
-const MOST: u64 = LONGEST as u64 + 1;
+use std::io::Write;
 
 // Enough for two tables of 256 states together.
 const WORKSPACE: usize = 65_536;
 
 fn main(rt: HostRuntime) -> io::Result<()> {
     let heap = rt.alloc();
-    let mut input = Vec::new(heap);
-    rt.stdin().take(MOST).read_to_end(&mut input)?;
+    let input = read_text(heap, rt.stdin())?;
     if input.is_empty() {
         eprintln!(rt;
             "standin wants two tables on its standard input, the module's first, with an empty line between them"

@@ -6,6 +6,7 @@ mod tests {
     use source::table::Move;
     use std::alloc::{AllocError, Global};
     use std::test::Fail;
+    use table::Summary;
 
     // Texts with the number, the line and the field of their refusal.
     static REFUSED: [(&str, u8, usize, u8); 72] = [
@@ -111,17 +112,12 @@ mod tests {
         to: 255,
     };
 
-    fn same(step: Move, from: u8, label: u8, to: u8) -> bool {
-        step.from == from && step.label == label && step.to == to
+    fn step(from: u8, label: u8, to: u8) -> Move {
+        Move { from, label, to }
     }
 
     fn untouched(moves: &[Move]) -> bool {
-        for step in moves {
-            if !same(*step, 255, 255, 255) {
-                return false;
-            }
-        }
-        true
+        moves.iter().all(|step| *step == MARK)
     }
 
     // A text with moves of 13 bytes and moves of 12 after a first line of 10.
@@ -137,11 +133,9 @@ mod tests {
     }
 
     // The number, the line and the field of a text's refusal; none where it is read.
-    fn refusal(text: &[u8], moves: &mut [Move]) -> (u8, usize, u8) {
-        match table::check(text).store(moves) {
-            Ok(_) => (0, 0, 0),
-            Err(fault) => (fault.number(), fault.line(), fault.field()),
-        }
+    fn refusal(text: &[u8], moves: &mut [Move]) -> Option<(u8, usize, u8)> {
+        let fault = table::check(text).store(moves).err()?;
+        Some((fault.number(), fault.line(), fault.field()))
     }
 
     #[test]
@@ -150,7 +144,7 @@ mod tests {
             let mut moves = [MARK; 4];
             assert_eq!(rt;
                 refusal(text.as_bytes(), &mut moves),
-                (*number, *line, *field),
+                Some((*number, *line, *field)),
                 "{}",
                 text
             );
@@ -159,19 +153,20 @@ mod tests {
     }
 
     #[test]
-    fn reads(rt: HostRuntime) -> Result<(), Fail> {
+    fn reads(rt: HostRuntime) {
         for (text, states, start, moves) in READ.iter() {
-            match table::check(text.as_bytes()).found() {
-                Ok(summary) => assert_eq!(rt;
-                    (summary.states, summary.start, summary.moves),
-                    (*states, *start, *moves),
-                    "{}",
-                    text
-                ),
-                Err(_) => return Err(Fail::new(text)),
-            }
+            let summary = Summary {
+                states: *states,
+                start: *start,
+                moves: *moves,
+            };
+            assert_eq!(rt;
+                table::check(text.as_bytes()).found(),
+                Ok(summary),
+                "{}",
+                text
+            );
         }
-        Ok(())
     }
 
     #[test]
@@ -179,23 +174,29 @@ mod tests {
         let text =
             b"table,255,7\nmove,0,?,0,254\nmove,254,?,31,0\nmove,1,!,0,2\nmove,2,!,31,1\nmove,3,-,,3\nmove,3,-,,3\n";
         let mut moves = [MARK; 8];
-        assert_eq!(rt; refusal(text, &mut moves), (0, 0, 0));
-        assert!(rt; same(moves[0], 0, 0, 254) && same(moves[1], 254, 31, 0));
-        assert!(rt; same(moves[2], 1, 32, 2) && same(moves[3], 2, 63, 1));
-        assert!(rt; same(moves[4], 3, 64, 3) && same(moves[5], 3, 64, 3));
+        assert_eq!(rt; refusal(text, &mut moves), None);
+        let stored = [
+            step(0, 0, 254),
+            step(254, 31, 0),
+            step(1, 32, 2),
+            step(2, 63, 1),
+            step(3, 64, 3),
+            step(3, 64, 3),
+        ];
+        assert_eq!(rt; &moves[0..6], stored.as_slice());
         assert!(rt; untouched(&moves[6..8]), "the places past the moves");
     }
 
     #[test]
     fn bytes_that_are_no_text_are_refused(rt: HostRuntime) {
         let mut moves = [MARK; 4];
-        assert_eq!(rt; refusal(b"table,\xff,0\n", &mut moves), (2, 1, 2));
-        assert_eq!(rt; refusal(b"table,3,\xb1\n", &mut moves), (2, 1, 3));
+        assert_eq!(rt; refusal(b"table,\xff,0\n", &mut moves), Some((2, 1, 2)));
+        assert_eq!(rt; refusal(b"table,3,\xb1\n", &mut moves), Some((2, 1, 3)));
         assert_eq!(rt;
             refusal(b"table,3,1\nmove,0,\x80,0,0\n", &mut moves),
-            (3, 2, 3)
+            Some((3, 2, 3))
         );
-        assert_eq!(rt; refusal(b"\xfftable,3,1\n", &mut moves), (1, 1, 0));
+        assert_eq!(rt; refusal(b"\xfftable,3,1\n", &mut moves), Some((1, 1, 0)));
         assert!(rt; untouched(&moves));
     }
 
@@ -205,15 +206,18 @@ mod tests {
         let mut moves = vec![in heap; MARK; 4096]?;
         let full = long_text(heap, 6, 3406)?;
         assert_eq!(rt; full.len(), 40_960);
-        assert_eq!(rt; refusal(full.as_slice(), moves.as_mut_slice()), (0, 0, 0));
+        assert_eq!(rt; refusal(full.as_slice(), moves.as_mut_slice()), None);
         let mut over = long_text(heap, 7, 3405)?;
         assert_eq!(rt; over.len(), 40_961);
         let mut marks = vec![in heap; MARK; 4096]?;
-        assert_eq!(rt; refusal(over.as_slice(), marks.as_mut_slice()), (4, 0, 0));
+        assert_eq!(rt;
+            refusal(over.as_slice(), marks.as_mut_slice()),
+            Some((4, 0, 0))
+        );
         over.extend_from_slice(b"mov")?;
         assert_eq!(rt;
             refusal(over.as_slice(), marks.as_mut_slice()),
-            (4, 0, 0),
+            Some((4, 0, 0)),
             "too long, before its faults"
         );
         assert!(rt; untouched(marks.as_slice()));
@@ -225,20 +229,26 @@ mod tests {
         let heap = rt.alloc();
         let mut moves = vec![in heap; MARK; 1024]?;
         let mut over = long_text(heap, 1, 1024)?;
-        assert_eq!(rt; refusal(over.as_slice(), moves.as_mut_slice()), (4, 0, 0));
+        assert_eq!(rt;
+            refusal(over.as_slice(), moves.as_mut_slice()),
+            Some((4, 0, 0))
+        );
         over.extend_from_slice(b"move,0,?,0,1\n")?;
         assert_eq!(rt;
             refusal(over.as_slice(), moves.as_mut_slice()),
-            (2, 1027, 5),
+            Some((2, 1027, 5)),
             "a fault, before the room"
         );
         assert!(rt; untouched(moves.as_slice()));
         let full = long_text(heap, 1, 1023)?;
-        assert_eq!(rt; refusal(full.as_slice(), moves.as_mut_slice()), (0, 0, 0));
-        assert_eq!(rt; refusal(b"table,1,0\nmove,0,-,,0\n", &mut []), (4, 0, 0));
+        assert_eq!(rt; refusal(full.as_slice(), moves.as_mut_slice()), None);
+        assert_eq!(rt;
+            refusal(b"table,1,0\nmove,0,-,,0\n", &mut []),
+            Some((4, 0, 0))
+        );
         assert_eq!(rt;
             refusal(b"table,1,0\n", &mut []),
-            (0, 0, 0),
+            None,
             "no moves want no room"
         );
         Ok(())
