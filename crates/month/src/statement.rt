@@ -48,7 +48,7 @@ impl fmt::Display for Statement<'_> {
             }
         }
         writeln!(f)?;
-        for seat in 0..6 {
+        for seat in 0..whole::SEATS {
             show_seat(self.house, seat, f)?;
         }
         show_stuck(self.house, f)

@@ -67,6 +67,7 @@ impl Told {
         ensures stuck { IfOk result (λ t. t.stuck ≡ searched (S.Source.means source.now) (member names.0) room) }
     {
         let size = source.size();
+        // The line shows the size as sources answer it, with 256 for too large.
         let last = if size == 256 {
             ASKED_OF_TOO_LARGE
         } else {
@@ -86,14 +87,12 @@ impl Told {
 }
 
 fn states_of<S: Source>(alloc: Global, source: &S, last: u16) -> Result<Vec<State>, AllocError> {
-    let mut states = Vec::new(alloc);
-    for p in 0..last as usize + 1 {
-        states.push(State {
+    (0..=last as usize)
+        .map(|p| State {
             initials: source.initials(p),
             stable: source.is_stable(p),
-        })?;
-    }
-    Ok(states)
+        })
+        .collect(alloc)
 }
 
 fn moves_of<S: Source>(source: &S, last: u16) -> Moves {
