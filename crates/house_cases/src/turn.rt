@@ -17,6 +17,7 @@ pub struct Turn {
 }
 
 impl Turn {
+    // `replay` makes the same calls, with a workspace that nobody sees.
     pub fn make(
         heap: Global,
         house: &mut House,

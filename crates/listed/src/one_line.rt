@@ -29,6 +29,7 @@ fn first(line: &[u8]) -> Option<(u8, &[u8])>
     }
 }
 
+// `to_digit` would take capitals too.
 fn hex(digit: u8) -> Option<u8>
     ensures { IfSome result (λ n. n < 16) }
 {

@@ -24,7 +24,7 @@ Each line of the input is a call:
 #[derive(Clone, Copy)]
 pub struct Statement<'a> {
     pub items: &'a [Item],
-    // Of the calls among the items, in order.
+    // Of the calls among the items, in order, as `replay` writes them.
     pub replies: &'a [Result<Reply, Refusal>],
     pub house: &'a House,
 }
