@@ -9,12 +9,14 @@ const SHOWN: usize = 400;
 
 // FNV-1a of 64 bits: what it begins with, and what it multiplies by.
 const BASIS: u64 = 0xcbf2_9ce4_8422_2325;
+
 const PRIME: u64 = 0x100_0000_01b3;
 
 pub fn hash(bytes: &[u8]) -> u64 {
-    bytes
-        .iter()
-        .fold(BASIS, |hash, byte| (hash ^ *byte as u64).wrapping_mul(PRIME))
+    bytes.iter().fold(
+        BASIS,
+        |hash, byte| (hash ^ *byte as u64).wrapping_mul(PRIME),
+    )
 }
 
 /// Numbers with blanks between them, or `#` and the hash of many bytes.
