@@ -1,6 +1,7 @@
+//! Sets of names and of labels, each a bit for each member.
 #![tactic(auto)]
 
-ghost use Rattle.std.specs.Prelude.{◌≡◌, ℕ, ◌<◌, not, ◌&&◌, ◌||◌, MatchOption, ◌==◌, Some};
+ghost use Rattle.std.specs.Prelude.{◌≡◌, ℕ, ◌+◌, ◌<◌, not, ◌&&◌, ◌||◌, MatchOption, ◌==◌, Some};
 ghost use Rattle.std.specs.Iterator.{YieldsFirst, item_count};
 ghost use Rattle.lts.specs.Labels.{member, complement, name_of};
 ghost use Rattle.lts.specs.Machines.{some_below};
@@ -34,10 +35,27 @@ fn has_bit(bits: u64, k: u8) -> bool
 pub struct NameSet(pub u32);
 
 impl NameSet {
+    /// Every name.
+    pub const ALL: NameSet = NameSet(u32::MAX);
+
+    /// No name.
+    pub const NONE: NameSet = NameSet(0);
+
+    /// No name from 32 on is a member.
     pub fn has(self, name: u8) -> bool
         ensures { result ≡ member self.0 name }
     {
         has_bit(u64::from(self.0), name)
+    }
+
+    /// The set with one name more; a name from 32 on adds nothing.
+    pub fn with(self, name: u8) -> NameSet
+        ensures { (k : ℕ) → k < 32 → member result.0 k ≡ (member self.0 k || name == k) }
+    {
+        if name >= NAMES {
+            return self;
+        }
+        NameSet(self.0 | (1 << name))
     }
 }
 
@@ -62,6 +80,7 @@ impl fmt::Display for NameSet {
 pub struct LabelSet(u64);
 
 impl LabelSet {
+    /// The set without labels.
     pub fn empty() -> LabelSet
         ensures { result.0 ≡ 0 }
     {
@@ -82,6 +101,7 @@ impl LabelSet {
         found
     }
 
+    /// The set as a number: bit k is 1 where label k is a member.
     pub fn bits(self) -> u64
         ensures { result ≡ self.0 }
     {
@@ -106,6 +126,7 @@ impl LabelSet {
         }
     }
 
+    /// The labels that are in either set.
     pub fn union(self, other: LabelSet) -> LabelSet
         ensures { (a : ℕ) → member result.0 a ≡ (member self.0 a || member other.0 a) }
     {
@@ -127,6 +148,13 @@ impl LabelSet {
         LabelSet(self.0 & other.0.rotate_left(32))
     }
 
+    /// The names that the set both receives and sends on.
+    pub fn both_ways(self) -> NameSet
+        ensures { (k : ℕ) → k < 32 → member result.0 k ≡ (member self.0 k && member self.0 (k + 32)) }
+    {
+        NameSet((self.0 & (self.0 >> 32)) as u32)
+    }
+
     /// Whether some label of the set has its complement in the other set.
     pub fn meets(self, other: LabelSet) -> bool
         ensures { result ≡ some_below 64 (λ k. member self.0 k && member other.0 (complement k)) }
@@ -134,6 +162,7 @@ impl LabelSet {
         !self.meeting(other).is_empty()
     }
 
+    /// Whether no label is a member.
     pub fn is_empty(self) -> bool
         ensures { result ≡ (self.0 == 0) }
     {
