@@ -4,7 +4,7 @@ ghost use Rattle.source.specs.Tables.{table_size};
 use crate::source::told_size;
 
 /// How many states a machine has and where it starts. Where `start` is not below `states` it is too large.
-#[derive(Clone, Copy, PartialEq, Eq, Debug)]
+#[derive(Clone, Copy, PartialEq, Eq, Default, Debug)]
 pub struct Extent {
     pub states: u8,
     pub start: u8,
@@ -30,6 +30,7 @@ impl Extent {
     }
 
     /// The start, or 0 for too-large.
+    // What a source tells of its start is a number: a rule of the project.
     pub fn start(self) -> usize
         ensures { result ≡ cond (table_size self.states self.start == 0) 0 self.start }
     {

@@ -11,6 +11,8 @@ pub enum Refusal {
 }
 
 impl Refusal {
+    /// The number of the refusal.
+    // The number is the format's.
     pub fn number(self) -> u8
         ensures { result ≡ number self }
     {

@@ -4,6 +4,9 @@ ghost use Rattle.source.specs.Masks.{initials_mask};
 
 use labels::LabelSet;
 
+/// No machine that is not too large has more states.
+pub const MOST_STATES: usize = 255;
+
 /// What answers questions about one machine, or is too large to be one.
 /// Every question may be asked of every state and every label.
 pub trait Source {
@@ -12,13 +15,16 @@ pub trait Source {
     ghost sound: { (x : Self) → Sound (means x) };
 
     /// The number of states, or 256 for too-large.
+    // A question of a source answers a number, 256 for too-large: a rule of the project.
     fn size(&self) -> u16
         ensures { result ≡ told_size (means self.now) };
 
     /// The start, or 0 for too-large.
+    // A number too, by the same rule, and 0 for too-large.
     fn start(&self) -> usize
         ensures { result ≡ (means self.now).start };
 
+    /// Whether `p` moves to `q` on the label.
     fn has_move(&self, p: usize, label: u8, q: usize) -> bool
         ensures { result ≡ (means self.now).move p label q };
 

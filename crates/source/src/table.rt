@@ -6,6 +6,7 @@ use crate::extent::Extent;
 use crate::source::Source;
 use labels::{LabelSet, TAU};
 
+/// A move from a state to a state on a label: a visible one, or 64 for the silent one.
 #[derive(Clone, Copy, PartialEq, Eq, Default, Debug)]
 pub struct Move {
     pub from: u8,
@@ -39,6 +40,7 @@ impl Table<'_> {
     }
 }
 
+// A rule of the project: has_move, initials and is_stable are loops over the elements of the move slice, so that each costs one pass.
 impl Source for Table<'_> {
     ghost means = { λ t. table_machine t.states t.start t.moves.now };
 
@@ -57,7 +59,6 @@ impl Source for Table<'_> {
         if p >= n || q >= n || label > TAU {
             return false;
         }
-        // A rule of the project: has_move and initials go over the elements of the move slice.
         for v in self.moves {
             if v.from as usize == p && v.label == label && v.to as usize == q {
                 return true;
