@@ -4,6 +4,7 @@ use mathlib.Core.Path.{fun_ext}
 use Rattle.std.proofs.lemmas.Bool.{and_parts, and_from, and_left, lt-ltb, le-ltb, ltb-true, leb-true, le-leb, cases_Bool, cond-true, cond-false, ne_eqb, both_ways}
 use Rattle.lts.specs.Machines.{Machine, Sound, some_below}
 use Rattle.lts.specs.Some.{same, some_in, some_out}
+use Rattle.source.specs.declared.extent.Extent.{Extent}
 use Rattle.source.specs.Tables.{table_size, in_range}
 use Rattle.dense.specs.declared.row.Row.{Row}
 use Rattle.dense.specs.Rows.{in_row}
@@ -101,10 +102,11 @@ module _ (M : Machine) (n s : ℕ) (rows : List (List Row)) (sound : Sound M) (e
       (λ p l q. ap (λ (x : ℕ). dense_move x rows p l q) e ∙ move_is asked p l q)
 
 -- a machine that is too large has no states, starts at 0 and does not move
-pub none_copied : (M : Machine) (rows : List (List Row)) → Sound M → M.size ≡ 0 → dense_machine 0 0 rows ≡ M
-none_copied M rows sound z =
+pub none_copied : (M : Machine) (e : Extent) (rows : List (List Row)) → (e.states ≡ 0) × (e.start ≡ 0) → Sound M → M.size ≡ 0 → dense_machine e.states e.start rows ≡ M
+none_copied M e rows none sound z =
     let b = sound.begins in
-    same_machine (dense_machine 0 0 rows) M (sym z) (omega arith)
+    ap (λ (n : ℕ). dense_machine n e.start rows) none.0 ∙ ap (λ (s : ℕ). dense_machine 0 s rows) none.1
+    ∙ same_machine (dense_machine 0 0 rows) M (sym z) (omega arith)
     (λ p l q. and_left (in_range 0 p l q) (in_row (row_at rows p l) q) (and_left (ltb p 0) _ (le-ltb p 0 (omega arith)))
     ∙ sym (⊎_elim
     (λ (e : M.move p l q ≡ true). let w = (sound.within p l q e).from in absurd (omega arith))

@@ -32,7 +32,7 @@ no_machine = record { size = 0; start = 0; move = λ p l q. false }
 
 -- what a copy means
 abbrev pub meaning : Dense → Machine
-meaning d = dense_machine d.states d.start d.rows
+meaning d = dense_machine d.extent.states d.extent.start d.rows
 
 -- p moves on the label into the set
 unfoldable pub moves_into : Machine → ℕ → (ℕ → Bool) → ℕ → Bool

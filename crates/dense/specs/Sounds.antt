@@ -31,4 +31,4 @@ dense_sound states start rows =
     }
 
 pub meaning_sound : (d : Dense) → Sound (meaning d)
-meaning_sound d = dense_sound d.states d.start d.rows
+meaning_sound d = dense_sound d.extent.states d.extent.start d.rows

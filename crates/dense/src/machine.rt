@@ -1,26 +1,29 @@
 ghost use Rattle.std.specs.Prelude.{◌≡◌, ℕ, ◌<◌, ◌≤◌, length, slice_index_or};
 ghost use Rattle.lts.specs.Machines.{Machine};
 ghost use Rattle.source.specs.Masks.{initials_mask};
-ghost use Rattle.source.specs.Tables.{table_size};
 ghost use Rattle.dense.specs.Rows.{in_row, none};
 ghost use Rattle.dense.specs.Copies.{row_at, Successors, meaning, no_machine, moves_into};
-ghost use Rattle.dense.specs.Sounds.{dense_sound};
+ghost use Rattle.dense.specs.Sounds.{meaning_sound};
 
 use crate::row::Row;
 use labels::{LabelSet, TAU};
 use source::extent::Extent;
-use source::source::Source;
+use source::source::{MOST_STATES, Source};
+
+/// The visible labels and the silent one.
+const LABELS: usize = TAU as usize + 1;
 
 /// A machine as the rows of its successors, one for each of 255 states and 65 labels. What lies out of range does not count,
-/// and where `start` is not below `states` it is too large.
+/// and where its extent is too large, so is it.
+// Fixed memory: nothing may be allocated here, so there is a row for each state and label that a machine can have.
 #[derive(Drop)]
 pub struct Dense {
-    states: u8,
-    start: u8,
-    rows: [[Row; 65]; 255],
+    extent: Extent,
+    rows: [[Row; LABELS]; MOST_STATES],
 }
 
 /// The states that `p` moves to on the label, which are none where it is no initial.
+// Here and in the next two the size is handed down: a question for it in each row would ask the source anew.
 fn copy_row<S: Source>(source: &S, n: usize, initials: LabelSet, p: usize, label: u8) -> Row
     requires states { n ≡ (S.Source.means source.now).size }
     requires asked { initials.0 ≡ initials_mask (S.Source.means source.now) p }
@@ -33,12 +36,12 @@ fn copy_row<S: Source>(source: &S, n: usize, initials: LabelSet, p: usize, label
 }
 
 /// The same for each label.
-fn copy_state<S: Source>(source: &S, n: usize, p: usize) -> [Row; 65]
+fn copy_state<S: Source>(source: &S, n: usize, p: usize) -> [Row; LABELS]
     requires { n ≡ (S.Source.means source.now).size }
     ensures { (l : ℕ) → l ≤ 64 → Successors (S.Source.means source.now) p l (slice_index_or result l none) }
 {
     let initials = source.initials(p);
-    let mut rows = [Row::empty(); 65];
+    let mut rows = [Row::empty(); LABELS];
     for (label, row) in rows.iter_mut().enumerate() {
         *row = copy_row(source, n, initials, p, label as u8);
     }
@@ -46,7 +49,7 @@ fn copy_state<S: Source>(source: &S, n: usize, p: usize) -> [Row; 65]
 }
 
 /// The same for each state.
-fn copy_rows<S: Source>(source: &S, n: usize, rows: &mut [[Row; 65]; 255])
+fn copy_rows<S: Source>(source: &S, n: usize, rows: &mut [[Row; LABELS]; MOST_STATES])
     requires { n ≡ (S.Source.means source.now).size }
     ensures { (p l : ℕ) → p < n → l ≤ 64 → Successors (S.Source.means source.now) p l (row_at rows.new p l) }
 {
@@ -61,42 +64,26 @@ impl Dense {
         ensures { meaning result ≡ no_machine }
     {
         Dense {
-            states: 0,
-            start: 0,
-            rows: [[Row::empty(); 65]; 255],
+            extent: Extent::default(),
+            rows: [[Row::empty(); LABELS]; MOST_STATES],
         }
     }
 
     /// Asks the source once for each of its moves.
+    // A step of its own after `none`: a copy is half a megabyte, and one that a function answers would be moved.
     pub fn copy<S: Source>(&mut self, source: &S)
         ensures { meaning self.new ≡ S.Source.means source.now }
     {
         match source.states() {
-            None => {
-                self.states = 0;
-                self.start = 0;
-            }
+            None => self.extent = Extent::default(),
             Some(n) => {
-                self.states = n as u8;
-                self.start = source.start() as u8;
+                self.extent = Extent {
+                    states: n as u8,
+                    start: source.start() as u8,
+                };
                 copy_rows(source, n, &mut self.rows);
             }
         }
-    }
-
-    fn extent(&self) -> Extent
-        ensures { result ≡ record { states = self.now.states; start = self.now.start } }
-    {
-        Extent {
-            states: self.states,
-            start: self.start,
-        }
-    }
-
-    fn count(&self) -> usize
-        ensures { result ≡ table_size self.now.states self.now.start }
-    {
-        self.extent().count()
     }
 
     /// The states with a move on the label into the set.
@@ -106,7 +93,7 @@ impl Dense {
         if label > TAU {
             return Row::empty();
         }
-        let n = self.count();
+        let n = self.extent.count();
         let inside = states.both(Row::below(n));
         Row::of(n, |p| self.rows[p][label as usize].meets(inside))
     }
@@ -115,23 +102,23 @@ impl Dense {
 impl Source for Dense {
     ghost means = { meaning };
 
-    ghost sound = { λ d. dense_sound d.states d.start d.rows };
+    ghost sound = { meaning_sound };
 
     fn size(&self) -> u16 {
-        self.extent().size()
+        self.extent.size()
     }
 
     fn start(&self) -> usize {
-        self.extent().start()
+        self.extent.start()
     }
 
     fn has_move(&self, p: usize, label: u8, q: usize) -> bool {
-        let n = self.count();
+        let n = self.extent.count();
         p < n && q < n && label <= TAU && self.rows[p][label as usize].has(q)
     }
 
     fn initials(&self, p: usize) -> LabelSet {
-        let n = self.count();
+        let n = self.extent.count();
         if p >= n {
             return LabelSet::empty();
         }
@@ -140,7 +127,7 @@ impl Source for Dense {
     }
 
     fn is_stable(&self, p: usize) -> bool {
-        let n = self.count();
+        let n = self.extent.count();
         p < n && !self.rows[p][TAU as usize].meets(Row::below(n))
     }
 }

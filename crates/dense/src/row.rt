@@ -7,6 +7,7 @@ ghost use Rattle.dense.specs.Rows.{in_row};
 const HALF: usize = 128;
 
 /// A set of the states below 256, a bit for each.
+// Two fields and no array: a state tells its half by one test, and an index into two words would need a bound besides.
 // Sets of labels fit one word: one type for both would be a trait of words with laws of its own, longer than the two.
 #[derive(Clone, Copy, PartialEq, Eq, Debug)]
 pub struct Row {
@@ -22,6 +23,7 @@ fn ones(n: usize) -> u128
 }
 
 impl Row {
+    /// The set without states.
     pub fn empty() -> Row
         ensures { (q : ℕ) → in_row result q ≡ false }
     {
@@ -94,6 +96,7 @@ impl Row {
         }
     }
 
+    /// Whether no state is a member.
     pub fn is_empty(self) -> bool
         ensures { result ≡ not (some_below 256 (in_row self)) }
     {

@@ -24,7 +24,7 @@ pub returns : goal.returns
 unfolding moves_into
 returns c = λ p h.
     let d = c.args.self.now in
-    let n = table_size d.states d.start in
+    let n = table_size d.extent.states d.extent.start in
     let l = c.args.label in
     let X = in_row c.args.states in
     let inside = c.both-inside.result in

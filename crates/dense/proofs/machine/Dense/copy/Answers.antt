@@ -4,7 +4,7 @@ use Rattle.dense.proofs.machine.Dense.copy.Goals as goal
 
 pub returns-in-None : goal.returns-in-None
 returns-in-None g c =
-    none_copied (g.S.Source.means c.args.source.now) c.args.self.now.rows (g.S.Source.sound c.args.source.now) c.in-None.ensures
+    none_copied (g.S.Source.means c.args.source.now) c.default-self.result c.args.self.now.rows c.default-self.ensures (g.S.Source.sound c.args.source.now) c.in-None.ensures
 
 pub returns-in-Some : goal.returns-in-Some
 returns-in-Some g c =

@@ -1,8 +1,8 @@
 use Rattle.std.proofs.Common.{Bool, not, ◌&&◌, ltb, sym, ap, ◌∙◌, arith}
 use Rattle.std.proofs.lemmas.Bool.{lt-ltb}
 use Rattle.lts.specs.Machines.{initial}
-use Rattle.dense.specs.Copies.{dense_machine}
-use Rattle.dense.specs.Sounds.{dense_sound}
+use Rattle.dense.specs.Copies.{meaning}
+use Rattle.dense.specs.Sounds.{meaning_sound}
 use Rattle.dense.proofs.Copied.{row_some}
 use Rattle.dense.proofs.machine.DenseSource.is_stable.Goals as goal
 
@@ -11,7 +11,7 @@ unfolding initial
 returns-then-p-n c =
     let d = c.args.self.now in
     let n = c.count-n.result in
-    let M = dense_machine d.states d.start d.rows in
-    let small = (dense_sound d.states d.start d.rows).small in
+    let M = meaning d in
+    let small = (meaning_sound d).small in
     ap not (c.meets.ensures ∙ row_some M.size c.args.p 64 d.rows (let z = c.count-n.ensures in let y = c.if-p-n.true in omega arith) (omega arith) (omega arith) c.below.result (λ q h. c.below.ensures q h ∙ ap (ltb q) c.count-n.ensures))
     ∙ sym (ap (λ (b : Bool). b && not (initial M c.args.p 64)) (lt-ltb c.args.p M.size (let z = c.count-n.ensures in let y = c.if-p-n.true in omega arith)))
