@@ -1,5 +1,4 @@
-ghost use Rattle.std.specs.Prelude.{◌≡◌, ℕ, ◌<◌, ◌≤◌, length, slice_index_or};
-ghost use Rattle.lts.specs.Machines.{Machine};
+ghost use Rattle.std.specs.Prelude.{◌≡◌, ℕ, ◌<◌, ◌≤◌, slice_index_or};
 ghost use Rattle.source.specs.Masks.{initials_mask};
 ghost use Rattle.dense.specs.Rows.{in_row, none};
 ghost use Rattle.dense.specs.Copies.{row_at, Successors, meaning, no_machine, moves_into};
