@@ -1,5 +1,5 @@
 -- The first of the numbers in order at which something is found.
-use Rattle.std.proofs.Common.{◌≡◌, ℕ, zero, suc, ◌+◌, ◌<◌, ◌≤◌, true, false, ◌⊎◌, is_some, Some, None, Option, sym, refl, ap, ◌∙◌, subst, inl, inr, ⊎_elim, arith}
+use Rattle.std.proofs.Common.{◌≡◌, ℕ, zero, suc, ◌+◌, ◌<◌, ◌≤◌, true, false, ◌⊎◌, is_some, Some, None, Option, MatchOption, IsSomeAnd, sym, refl, ap, ◌∙◌, subst, inl, inr, ⊎_elim, arith}
 use Rattle.std.proofs.lemmas.Bool.{cases_eq, true≢false, false≢true}
 use Rattle.clauses.specs.Candidates.{or_else, first_some}
 
@@ -11,6 +11,13 @@ cases_option (Some x) = inr (x, refl)
 -- and not both
 pub not_both : {A : Type 0} (o : Option A) (x : A) → o ≡ Some x → o ≡ None → ⊥
 not_both o x e z = cc
+
+-- what `map` makes of what is there
+pub mapped : {A B : Type 0} {P : A → B → Type 0} (w : Option A → Option B) (o : Option A) (r : Option B) → MatchOption o (r ≡ None) (λ x. IsSomeAnd r (P x)) →
+    None ≡ w None → ((x : A) (y : B) → P x y → Some y ≡ w (Some x)) → r ≡ w o
+mapped w None r e none some = e ∙ none
+mapped w (Some x) None e none some = absurd e
+mapped w (Some x) (Some y) e none some = some x y e
 
 -- from what the code tests
 pub is_none : {A : Type 0} (o : Option A) → is_some o ≡ false → o ≡ None

@@ -1,18 +1,18 @@
 -- The union of the initials of the states that pass a test.
-use Rattle.std.proofs.Common.{◌≡◌, ℕ, zero, suc, ◌+◌, Bool, true, false, cond, ◌&&◌, ◌||◌, List, [], ◌∷◌, map, Some, None, Option, MatchOption, sym, refl, ap, ◌∙◌, subst, arith}
+use Rattle.std.proofs.Common.{◌≡◌, ℕ, zero, suc, ◌+◌, ◌<◌, Bool, true, false, cond, ◌&&◌, ◌||◌, List, [], ◌∷◌, map, Some, None, Option, MatchOption, sym, refl, ap, ◌∙◌, subst, arith}
 use Rattle.std.proofs.Math.Bool.{or_assoc}
 use Rattle.std.proofs.lemmas.Bool.{cond-true, cond-false}
 use Rattle.std.proofs.lemmas.List.{map-id}
 use Rattle.std.proofs.lemmas.Iterator.{YieldsList, items_from_drains}
 use Rattle.std.specs.Fn.{Called}
-use Rattle.std.specs.Iterator.{ReducesItems, FoldTurn}
+use Rattle.std.specs.Iterator.{FoldsItems, ReducesItems, FoldTurn}
 use Rattle.std.specs.List.{FoldsTo, list_any, filter_map, cons_option, filter, range_with_len}
 use denote.Param.Members.{Mut}
 use Rattle.lts.specs.Labels.{member}
 use Rattle.lts.specs.Machines.{Machine, some_below, initial}
 use Rattle.source.specs.Masks.{initials_mask}
 use Rattle.source.proofs.Masks.{initials_member}
-use Rattle.labels.proofs.Bits.{and_true, or_false}
+use Rattle.labels.proofs.Bits.{and_true, or_false, member_none}
 use Rattle.labels.specs.declared.LabelSet.{LabelSet}
 use Rattle.clauses.specs.Candidates.{AllInitials}
 use Rattle.clauses.proofs.Somes.{some_alike, range_any}
@@ -49,6 +49,14 @@ given_some p test sets n all e =
 given_more : (test : ℕ → Bool) (sets : ℕ → ℕ) (n : ℕ) (all : List LabelSet) → all ≡ filter_map (given test sets) (range_with_len 0 n) → list_any (λ _. true) all ≡ some_below n test
 given_more test sets n all e = given_some (λ _. true) test sets n all e ∙ some_alike n (λ v. test v && true) test (λ k _. and_true (test k))
 
+-- whether some set has the label
+given_label : (N : Machine) (test : ℕ → Bool) (xs : List LabelSet) → xs ≡ filter_map (given test (initials_mask N)) (range_with_len 0 N.size) → (l : ℕ) → l < 64 →
+    list_any (has l) xs ≡ some_below N.size (λ v. test v && initial N v l)
+given_label N test xs found l h =
+    let sets = initials_mask N in
+    given_some (has l) test sets N.size xs found
+    ∙ some_alike N.size (λ v. test v && member (sets v) l) (λ v. test v && initial N v l) (λ v _. ap (λ (b : Bool). test v && b) (initials_member N v (sets v) refl l h))
+
 module _ {F : Type 0} (g : Mut F (LabelSet × (LabelSet × Unit {0})) LabelSet) where
   -- each call unites two sets
   abbrev pub Unites : F → Type 0
@@ -71,9 +79,17 @@ module _ {F : Type 0} (g : Mut F (LabelSet × (LabelSet × Unit {0})) LabelSet) 
       let found : x ∷ xs ≡ filter_map (given test sets) (range_with_len 0 N.size) = sym (map-id (x ∷ xs)) ∙ items_from_drains (x ∷ xs) (d.0, d.1, λ _. (v, d.2)) yields ∙ e in
       record {
         some = sym (given_more test sets N.size (x ∷ xs) found);
-        labels = λ l h. folded _ u xs _ x q y refl turns l ∙ given_some (has l) test sets N.size (x ∷ xs) found
-            ∙ some_alike N.size (λ v. test v && member (sets v) l) (λ v. test v && initial N v l) (λ v _. ap (λ (b : Bool). test v && b) (initials_member N v (sets v) refl l h));
+        labels = λ l h. folded _ u xs _ x q y refl turns l ∙ given_label N test (x ∷ xs) found l h;
       }
+
+  -- what `fold` gathers of them from no label on
+  pub united : {S : Type 0} {steps : S → Option LabelSet → S → Type 0} {s : S} {f : F} {all : List LabelSet} (N : Machine) (test : ℕ → Bool) (x y : LabelSet) →
+      FoldsItems steps g s f x y → YieldsList steps (λ x. x) s all → all ≡ filter_map (given test (initials_mask N)) (range_with_len 0 N.size) → x.0 ≡ 0 → Unites f →
+      (l : ℕ) → l < 64 → member y.0 l ≡ some_below N.size (λ v. test v && initial N v l)
+  united N test x y (xs, q, (v, d), turns) yields e z u l h =
+      let found : xs ≡ filter_map (given test (initials_mask N)) (range_with_len 0 N.size) = sym (map-id xs) ∙ items_from_drains xs (d.0, d.1, λ _. (v, d.2)) yields ∙ e in
+      folded _ u xs _ x q y refl turns l ∙ ap (λ (k : ℕ). member k l || list_any (has l) xs) z ∙ ap (λ (b : Bool). b || list_any (has l) xs) (member_none l)
+      ∙ given_label N test xs found l h
 
 -- a set that is found where the test passes
 pub found_given : (test : ℕ → Bool) (sets : ℕ → ℕ) (v : ℕ) (r : Option LabelSet) → MatchOption r (test v ≡ false) (λ x. (test v ≡ true) × (x.0 ≡ sets v)) → r ≡ given test sets v

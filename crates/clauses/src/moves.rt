@@ -4,8 +4,9 @@ ghost use Rattle.std.specs.Prelude.{◌≡◌, ◌<◌, ◌&&◌, length};
 ghost use Rattle.lts.specs.Machines.{Machine, some_below};
 ghost use Rattle.dense.specs.Copies.{meaning};
 ghost use Rattle.clauses.specs.Ranks.{row_reads, stood_at};
-ghost use Rattle.clauses.specs.Candidates.{weak_by, first_move_on, first_move, by_rows};
+ghost use Rattle.clauses.specs.Candidates.{weak_by, first_move_on, first_move, as_move, by_rows};
 
+use crate::counterexample::Counterexample;
 use crate::pair::Pair;
 use source::source::Source;
 
@@ -34,12 +35,13 @@ impl<P: Source> Pair<'_, P> {
     }
 
     /// The first move of the module, by label and then by state, that the contract does not match.
-    pub(crate) fn failing_move(&self) -> Option<(u8, usize)>
-        ensures { result ≡ by_rows first_move (P.Source.means self.now.«module».machine.now) (meaning self.now.contract.machine.now) self.now.«module».row.now self.now.contract.row.now self.now.round self.now.ranks.now }
+    pub(crate) fn failing_move(&self) -> Option<Counterexample>
+        ensures { result ≡ as_move (by_rows first_move (P.Source.means self.now.«module».machine.now) (meaning self.now.contract.machine.now) self.now.«module».row.now self.now.contract.row.now self.now.round self.now.ranks.now) }
     {
         self.module
             .move_labels()
             .iter()
             .find_map(|label| self.failing_on(label))
+            .map(|(label, state)| Counterexample::Move { label, state })
     }
 }

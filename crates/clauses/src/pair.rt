@@ -26,6 +26,7 @@ pub(crate) struct Pair<'a, P: Source> {
 
 impl<'a, P: Source> Pair<'a, P> {
     /// The pair by the closures and the ranks that a workspace holds, if it has room for them and there is such a pair.
+    // The parameters stay apart: they are what callers have, and a `Pair` is found from them.
     pub(crate) fn find(
         module: &'a P,
         contract: &'a Dense,

@@ -52,7 +52,6 @@ impl<'a, S: Source> Place<'a, S> {
         (0..self.row.len())
             .filter(|t| self.reaches(*t))
             .map(|t| self.machine.initials(t))
-            .reduce(|a, b| a.union(b))
-            .unwrap_or(LabelSet::empty())
+            .fold(LabelSet::empty(), |a, b| a.union(b))
     }
 }

@@ -4,6 +4,7 @@ ghost use Rattle.std.specs.Prelude.{◌≡◌, ℕ, ◌+◌, ◌*◌, ◌<◌, �
 ghost use Rattle.clauses.specs.Ranks.{rank_at, rank_in, stood_by};
 
 /// The rank of pair `i`, or 0 where there is none.
+// Two bytes each, as the workspace is lent in bytes; a pair that is not there has rank 0, as one that stands.
 pub fn rank(ranks: &[u8], i: usize) -> u16
     ensures { result ≡ rank_in ranks.now i }
 {

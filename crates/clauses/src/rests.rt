@@ -2,13 +2,14 @@
 
 ghost use Rattle.std.specs.Prelude.{◌≡◌, ℕ, ◌<◌, true, false, ◌&&◌, MatchOption};
 ghost use Rattle.lts.specs.Labels.{member};
-ghost use Rattle.lts.specs.Machines.{Machine, some_below, each_below, implies, initial};
+ghost use Rattle.lts.specs.Machines.{Machine, some_below, each_below, implies, stable, initial};
 ghost use Rattle.source.specs.Masks.{initials_mask};
 ghost use Rattle.clauses.specs.Ranks.{row_reads};
 ghost use Rattle.dense.specs.Rows.{in_row};
-ghost use Rattle.clauses.specs.Candidates.{rests_at, AllInitials, first_rest_at, rests_from, first_rest};
+ghost use Rattle.clauses.specs.Candidates.{rests_at, AllInitials, first_rest_at, rests_from, first_rest, as_rest};
 ghost use Rattle.clauses.specs.Uncovered.{uncovered_by, uncovered_in};
 
+use crate::counterexample::Counterexample;
 use crate::place::Place;
 use dense::row::Row;
 use labels::LabelSet;
@@ -22,11 +23,18 @@ fn inside(labels: LabelSet, others: LabelSet) -> bool
 }
 
 impl<Q: Source> Place<'_, Q> {
+    /// Whether silent moves lead to a rest at `v`.
+    fn comes_to_rest(&self, v: usize) -> bool
+        ensures { result ≡ (row_reads self.now.row.now 0 v && stable (Q.Source.means self.now.machine.now) v) }
+    {
+        self.reaches(v) && self.machine.is_stable(v)
+    }
+
     /// The initials of `v` if silent moves lead to a rest there and they are among the allowed ones.
     fn rest_initials(&self, allowed: LabelSet, v: usize) -> Option<LabelSet>
         ensures { MatchOption result (rests_at (Q.Source.means self.now.machine.now) (row_reads self.now.row.now) 0 (member allowed.0) v ≡ false) (λ x. (rests_at (Q.Source.means self.now.machine.now) (row_reads self.now.row.now) 0 (member allowed.0) v ≡ true) × (x.0 ≡ initials_mask (Q.Source.means self.now.machine.now) v)) }
     {
-        if !self.reaches(v) || !self.machine.is_stable(v) {
+        if !self.comes_to_rest(v) {
             return None;
         }
         let initials = self.machine.initials(v);
@@ -61,20 +69,19 @@ impl<Q: Source> Place<'_, Q> {
     ) -> Option<(Option<u8>, usize)>
         ensures { result ≡ rests_from (P.Source.means «module».now.machine.now) (Q.Source.means self.now.machine.now) (row_reads «module».now.row.now) (row_reads self.now.row.now) 0 0 state }
     {
-        if !module.reaches(state) || !module.machine.is_stable(state) {
+        if !module.comes_to_rest(state) {
             return None;
         }
         self.failing_at(module.machine, state)
     }
 
     /// The first rest of a state of the module, by state and then by label, that is not covered.
-    pub(crate) fn failing_rest<P: Source>(
-        &self,
-        module: &Place<'_, P>,
-    ) -> Option<(Option<u8>, usize)>
-        ensures { result ≡ first_rest (P.Source.means «module».now.machine.now) (Q.Source.means self.now.machine.now) (row_reads «module».now.row.now) (row_reads self.now.row.now) 0 0 }
+    pub(crate) fn failing_rest<P: Source>(&self, module: &Place<'_, P>) -> Option<Counterexample>
+        ensures { result ≡ as_rest (first_rest (P.Source.means «module».now.machine.now) (Q.Source.means self.now.machine.now) (row_reads «module».now.row.now) (row_reads self.now.row.now) 0 0) }
     {
-        (0..module.row.len()).find_map(|state| self.failing_from(module, state))
+        (0..module.row.len())
+            .find_map(|state| self.failing_from(module, state))
+            .map(|(label, state)| Counterexample::Rest { label, state })
     }
 
     /// The stable states at which a rest of the module is not covered.

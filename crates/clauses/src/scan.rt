@@ -16,16 +16,17 @@ impl<P: Source> Pair<'_, P> {
     fn first_failing(&self) -> Option<Counterexample>
         ensures { result ≡ by_rows first_by (P.Source.means self.now.«module».machine.now) (meaning self.now.contract.machine.now) self.now.«module».row.now self.now.contract.row.now self.now.round self.now.ranks.now }
     {
-        if let Some((label, state)) = self.failing_move() {
-            return Some(Counterexample::Move { label, state });
+        // Not `or_else`: its contract says nothing here of what a closure without arguments answers.
+        match self.failing_move() {
+            None => self.contract.failing_rest(&self.module),
+            found => found,
         }
-        let (label, state) = self.contract.failing_rest(&self.module)?;
-        Some(Counterexample::Rest { label, state })
     }
 }
 
 /// The first candidate of the pair that fails against the pairs that stood before the round, by the closures and the ranks that
 /// a workspace holds; `None` also where the workspace has no room for them, or there is no such pair.
+// The parameters stay apart: they are what callers have, and a `Pair` is found from them.
 pub fn first_failing_copied<P: Source>(
     module: &P,
     contract: &Dense,
@@ -41,6 +42,7 @@ pub fn first_failing_copied<P: Source>(
 
 /// The first candidate of the pair that fails against the pairs that stood before the round, as `first_failing_copied` finds it by
 /// a copy of the contract.
+// The parameters stay apart, as above.
 pub fn first_failing<P: Source, Q: Source>(
     module: &P,
     contract: &Q,

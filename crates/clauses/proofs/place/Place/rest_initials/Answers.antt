@@ -1,20 +1,29 @@
-use Rattle.std.proofs.Common.{◌≡◌, ℕ, ◌<◌, Bool, true, false, Option, MatchOption, sym, refl, ap, ◌∙◌, subst}
+use Rattle.std.proofs.Common.{◌≡◌, ℕ, ◌<◌, Bool, true, false, ◌&&◌, Option, MatchOption, sym, refl, ap, ◌∙◌, subst}
 use Rattle.std.specs.Bool.{then_some}
-use Rattle.std.proofs.lemmas.Bool.{and_from, and_left, and_right}
+use Rattle.std.proofs.lemmas.Bool.{and_from, and_left, and_right, and_parts}
 use Rattle.lts.specs.Labels.{member}
-use Rattle.lts.specs.Machines.{Machine, each_below, implies, initial}
+use Rattle.lts.specs.Machines.{Machine, each_below, implies, stable, initial}
 use Rattle.source.proofs.Masks.{initials_member}
+use Rattle.clauses.specs.Ranks.{row_reads}
 use Rattle.clauses.specs.Candidates.{rests_at}
 use Rattle.clauses.proofs.Somes.{each_alike}
 use Rattle.clauses.proofs.place.Place.rest_initials.Goals as goal
-use Rattle.clauses.proofs.place.Place.rest_initials.Goals.{then-not-reaches-via-then-not-reaches, then-not-reaches-via-else-not-reaches+then-not-is_stable}
 
-pub returns-then-not-reaches : goal.returns-then-not-reaches
+-- a test that fails in its first two parts
+fails : (a b x : Bool) → (a && b) ≡ false → (a && (b && x)) ≡ false
+fails true b x e = and_left b x e
+fails false b x e = refl
+
+-- and one whose parts hold
+passes : (a b x : Bool) → (a && b) ≡ true → x ≡ true → (a && (b && x)) ≡ true
+passes a b x e h = let p = and_parts a b e in and_from _ _ p.0 (and_from _ _ p.1 h)
+
+pub returns-then-not-comes_to_rest : goal.returns-then-not-comes_to_rest
 unfolding rests_at
-returns-then-not-reaches g c = elim c.then-not-reaches.branch [
-  | then-not-reaches-via-then-not-reaches w ↦ and_left _ _ (sym w.if-not-reaches.ensures)
-  | then-not-reaches-via-else-not-reaches+then-not-is_stable w ↦ and_right _ _ (and_left _ _ (sym w.if-not-is_stable.ensures))
-]
+returns-then-not-comes_to_rest g c =
+    let N = g.Q.Source.means c.args.self.now.machine.now in
+    let v = c.args.v in
+    fails (row_reads c.args.self.now.row.now 0 v) (stable N v) (each_below 64 (λ l. implies (initial N v l) (member c.args.allowed.0 l))) (sym c.if-not-comes_to_rest.ensures)
 
 same_inside : (N : Machine) (v x a : ℕ) → ((l : ℕ) → l < 64 → member x l ≡ initial N v l) →
     each_below 64 (λ l. implies (initial N v l) (member a l)) ≡ each_below 64 (λ l. implies (member x l) (member a l))
@@ -32,6 +41,8 @@ returns g c =
     let v = c.args.v in
     let x = c.initials-initials.result.0 in
     let same = same_inside N v x c.args.allowed.0 (initials_member N v x c.initials-initials.ensures) ∙ sym c.inside.ensures in
+    let U = row_reads c.args.self.now.row.now 0 v in
+    let inside = each_below 64 (λ l. implies (initial N v l) (member c.args.allowed.0 l)) in
     kept _ c.inside.result c.initials-initials.result _ c.then_some.ensures
     (λ e. and_right _ _ (and_right _ _ (same ∙ e)))
-    (λ e. (and_from _ _ (sym c.if-not-reaches.ensures) (and_from _ _ (sym c.if-not-is_stable.ensures) (same ∙ e)), c.initials-initials.ensures))
+    (λ e. (passes U (stable N v) inside (sym c.if-not-comes_to_rest.ensures) (same ∙ e), c.initials-initials.ensures))
