@@ -1,6 +1,7 @@
 -- The first of the numbers in order at which something is found.
-use Rattle.std.proofs.Common.{◌≡◌, ℕ, zero, suc, ◌+◌, ◌<◌, ◌≤◌, true, false, ◌⊎◌, is_some, Some, None, Option, MatchOption, IsSomeAnd, sym, refl, ap, ◌∙◌, subst, inl, inr, ⊎_elim, arith}
+use Rattle.std.proofs.Common.{◌≡◌, ℕ, zero, suc, ◌+◌, ◌<◌, ◌≤◌, Bool, true, false, ◌⊎◌, is_some, Some, None, Option, MatchOption, IsSomeAnd, sym, refl, ap, ◌∙◌, subst, inl, inr, ⊎_elim, arith}
 use Rattle.std.proofs.lemmas.Bool.{cases_eq, true≢false, false≢true}
+use Rattle.std.specs.Bool.{then_some}
 use Rattle.clauses.specs.Candidates.{or_else, first_some}
 
 -- nothing, or something
@@ -18,6 +19,11 @@ pub mapped : {A B : Type 0} {P : A → B → Type 0} (w : Option A → Option B)
 mapped w None r e none some = e ∙ none
 mapped w (Some x) None e none some = absurd e
 mapped w (Some x) (Some y) e none some = some x y e
+
+-- what `then_some` answers, by the two results of a test
+pub kept : {A : Type 0} {No : Type 0} (Yes : A → Type 0) (b : Bool) (x : A) (o : Option A) → o ≡ then_some b x → (b ≡ false → No) → (b ≡ true → Yes x) → MatchOption o No Yes
+kept {No = No} Yes true x o e fails holds = subst (λ o. MatchOption o No Yes) (sym e) (holds refl)
+kept {No = No} Yes false x o e fails holds = subst (λ o. MatchOption o No Yes) (sym e) (fails refl)
 
 -- from what the code tests
 pub is_none : {A : Type 0} (o : Option A) → is_some o ≡ false → o ≡ None

@@ -115,7 +115,7 @@ module _ (M N : Machine) (s : Sound M) (u : Sound N) (w : List ℕ) (h : Holding
       ap (rank_in ranks) z ∙ read_rank M N w h ranks (M.start * N.size + N.start) er (digits_lt sp sq)
 
   -- a pair that is struck has a candidate that fails, and the code finds it
-  module _ (r p q : ℕ) (e : r ≡ start_rank M N) (struck : r ≡ 0 → ⊥) (ep : p ≡ M.start) (eq : q ≡ N.start) where
+  module _ (r p q : ℕ) (e : r ≡ start_rank M N) (struck : 0 < r) (ep : p ≡ M.start) (eq : q ≡ N.start) where
     er : r ≡ suc (r - 1)
     er = omega arith
 

@@ -1,4 +1,4 @@
-ghost use Rattle.std.specs.Prelude.{◌≡◌, length, drop};
+ghost use Rattle.std.specs.Prelude.{◌≡◌, ◌<◌, length, drop, MatchOption};
 ghost use Rattle.lts.specs.Machines.{Machine};
 ghost use Rattle.clauses.specs.Workspaces.{base};
 ghost use Rattle.dense.specs.Copies.{meaning};
@@ -55,23 +55,23 @@ impl Filled<'_> {
         (0..n * m).filter(|i| rank(ranks, *i) == 0).count() as u16
     }
 
-    /// The round that struck the pair of the starts, or 0 where it stands.
-    fn round(&self) -> u16
-        ensures { result ≡ start_rank (meaning self.now.«module».now) (meaning self.now.contract.now) }
+    /// The round that struck the pair of the starts, if one did.
+    fn round(&self) -> Option<u16>
+        ensures { MatchOption result (start_rank (meaning self.now.«module».now) (meaning self.now.contract.now) ≡ 0) (λ round. (round ≡ start_rank (meaning self.now.«module».now) (meaning self.now.contract.now)) × (0 < round)) }
     {
         let (_, m) = self.sizes();
         let starts = self.module.start() * m + self.contract.start();
-        rank(self.ranks(), starts)
+        let rank = rank(self.ranks(), starts);
+        (rank > 0).then_some(rank)
     }
 
     /// The answer that the ranks give.
     fn answer(&self) -> Answer
         ensures { result ≡ answer (meaning self.now.«module».now) (meaning self.now.contract.now) }
     {
-        let round = self.round();
-        if round == 0 {
+        let Some(round) = self.round() else {
             return Answer::Yes;
-        }
+        };
         let p = self.module.start();
         let q = self.contract.start();
         let found = first_failing_copied(self.module, self.contract, self.workspace, round, p, q);

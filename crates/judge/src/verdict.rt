@@ -18,7 +18,7 @@ pub struct Verdict {
     pub states: usize,
     /// How many the contract has.
     pub others: usize,
-    /// The last round that struck a pair, or 0.
+    /// How many rounds struck a pair.
     pub highest: u16,
     /// How many pairs of states stand.
     pub standing: u16,

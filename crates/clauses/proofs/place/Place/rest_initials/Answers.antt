@@ -1,11 +1,11 @@
-use Rattle.std.proofs.Common.{◌≡◌, ℕ, ◌<◌, Bool, true, false, ◌&&◌, Option, MatchOption, sym, refl, ap, ◌∙◌, subst}
-use Rattle.std.specs.Bool.{then_some}
+use Rattle.std.proofs.Common.{◌≡◌, ℕ, ◌<◌, Bool, true, false, ◌&&◌, sym, refl, ap, ◌∙◌}
 use Rattle.std.proofs.lemmas.Bool.{and_from, and_left, and_right, and_parts}
 use Rattle.lts.specs.Labels.{member}
 use Rattle.lts.specs.Machines.{Machine, each_below, implies, stable, initial}
 use Rattle.source.proofs.Masks.{initials_member}
 use Rattle.clauses.specs.Ranks.{row_reads}
 use Rattle.clauses.specs.Candidates.{rests_at}
+use Rattle.clauses.proofs.Firsts.{kept}
 use Rattle.clauses.proofs.Somes.{each_alike}
 use Rattle.clauses.proofs.place.Place.rest_initials.Goals as goal
 
@@ -28,11 +28,6 @@ returns-then-not-comes_to_rest g c =
 same_inside : (N : Machine) (v x a : ℕ) → ((l : ℕ) → l < 64 → member x l ≡ initial N v l) →
     each_below 64 (λ l. implies (initial N v l) (member a l)) ≡ each_below 64 (λ l. implies (member x l) (member a l))
 same_inside N v x a h = each_alike 64 (λ l. implies (initial N v l) (member a l)) (λ l. implies (member x l) (member a l)) (λ l k. ap (λ (b : Bool). implies b (member a l)) (sym (h l k)))
-
--- by the two results of a test
-kept : {A : Type 0} {No : Type 0} (Yes : A → Type 0) (b : Bool) (x : A) (o : Option A) → o ≡ then_some b x → (b ≡ false → No) → (b ≡ true → Yes x) → MatchOption o No Yes
-kept {No = No} Yes true x o e fails holds = subst (λ o. MatchOption o No Yes) (sym e) (holds refl)
-kept {No = No} Yes false x o e fails holds = subst (λ o. MatchOption o No Yes) (sym e) (fails refl)
 
 pub returns : goal.returns
 unfolding rests_at
