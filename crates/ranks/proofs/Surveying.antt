@@ -24,10 +24,10 @@ closure_read M w n p t e s h =
     (cases_lt t M.size)
 
 -- some state moves on the label to s
-pub arrives : (M : Machine) (l s : ℕ) (X : ℕ → Bool) (before : Row) → Sound M → s < M.size → ((v : ℕ) → v < M.size → X v ≡ eqb s v) →
+pub arrives : (M : Machine) (l s : ℕ) (X : ℕ → Bool) (before : Row) → Sound M → ((v : ℕ) → v < M.size → X v ≡ eqb s v) →
     ((t : ℕ) → t < 256 → in_row before t ≡ moves_into M l X t) → some_below 256 (in_row before) ≡ some_below M.size (λ t. M.move t l s)
 unfolding moves_into
-arrives M l s X before sound h x be =
+arrives M l s X before sound x be =
     let small = sound.small in
     same (some_below 256 (in_row before)) (some_below M.size (λ t. M.move t l s))
     (λ e.
@@ -42,6 +42,7 @@ arrives M l s X before sound h x be =
     let o = some_out M.size (λ t. M.move t l s) e in
     let t = o.0 in
     let k = o.1 in
+    let h = (sound.within t l s o.2).to in
     some_in 256 (in_row before) t (omega arith) (be t (omega arith) ∙ some_in M.size (λ q. M.move t l q && X q) s h (and_from _ _ o.2 (x s h ∙ eq-eqb s s refl))))
 
 -- a closure that meets no state that is not covered

@@ -11,6 +11,7 @@ use clauses::rests::uncovered;
 use dense::row::Row;
 
 /// The states of the contract from which all rests of a closure are covered.
+// The bound is asked, since `bare` has no element from 255 on.
 fn cover_row(closure: Row, bare: &[Row; 255], m: usize) -> Row
     requires { m ≤ 255 }
     ensures { (q : ℕ) → q < 256 → in_row result q ≡ (nat_lt q m && not (some_below 256 (λ p. in_row closure p && in_rows bare.now q p))) }

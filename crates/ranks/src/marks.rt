@@ -22,7 +22,7 @@ fn mark_row(ranks: &mut [u8], m: usize, p: usize, struck: Row, round: u16)
     requires { 2 * (p * m + m) ≤ length ranks.old }
     ensures { Marked m round (λ a b. (a == p) && in_row struck b) ranks.old ranks.new }
 {
-    // By number, since the ranks are written where they lie, and only those of struck pairs.
+    // By number: of what is written through `chunks_exact_mut`, the proof cannot tell which ranks it changed.
     for q in 0..m {
         if struck.has(q) {
             put_rank(ranks, p * m + q, round);
@@ -32,6 +32,7 @@ fn mark_row(ranks: &mut [u8], m: usize, p: usize, struck: Row, round: u16)
 
 impl Board {
     /// Writes the round at each pair that stands and does not stand next: it stands no longer, and its row has changed.
+    // The board knows no sizes, so its bounds are asked here.
     pub(crate) fn mark_rows(&mut self, ranks: &mut [u8], n: usize, m: usize, round: u16)
         requires room { 2 * (n * m) ≤ length ranks.old }
         requires few { (n ≤ 255) × (m ≤ 255) }
@@ -42,7 +43,7 @@ impl Board {
     {
         let all = Row::below(m);
         let mut changed = Row::empty();
-        // By number, since one state has its place in two arrays and among the ranks.
+        // By number: a state has its place in both arrays and among the ranks.
         for p in 0..n {
             let struck = self.stands[p].without(self.next[p]).both(all);
             if !struck.is_empty() {

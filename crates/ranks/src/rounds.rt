@@ -40,6 +40,7 @@ impl Sides<'_> {
             changed: Row::below(self.module.size),
         };
         let mut done = 0;
+        // A loop: it ends when a round strikes nothing, which no range tells.
         loop {
             self.strike_round(&mut board, ranks, done + 1);
             if board.changed.is_empty() {

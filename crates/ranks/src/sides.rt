@@ -15,7 +15,7 @@ use dense::row::Row;
 use labels::LabelSet;
 
 /// A machine with the number of its states and its tau closure as rows.
-// Fixed memory: nothing may be allocated, so there is a row for each state that a machine can have.
+// Fixed memory: a row for each state that a machine can have. No ArrayVec, as only a state is ever an index: none asks how many rows there are.
 #[derive(Drop)]
 pub(crate) struct Side<'a> {
     pub(crate) machine: &'a Dense,
@@ -37,7 +37,6 @@ pub(crate) struct Sides<'a> {
 /// Row `p` of a closure.
 fn closure_row(sheet: &[u8], n: usize, p: usize) -> Row
     requires room { n * n ≤ length sheet.now }
-    requires few { n ≤ 255 }
     requires inside { p < n }
     ensures { (t : ℕ) → t < 256 → in_row result t ≡ (nat_lt t n && reads sheet.now n p t) }
 {
@@ -46,7 +45,6 @@ fn closure_row(sheet: &[u8], n: usize, p: usize) -> Row
 
 /// Whether some state moves on the label to the state.
 fn arrives(module: &Dense, label: u8, state: usize) -> bool
-    requires { state < (meaning «module».now).size }
     ensures { result ≡ some_below (meaning «module».now).size (λ t. (meaning «module».now).move t label state) }
 {
     !module.before(label, Row::empty().with(state)).is_empty()
@@ -54,7 +52,6 @@ fn arrives(module: &Dense, label: u8, state: usize) -> bool
 
 /// The labels on the moves into the state.
 fn labels_into(module: &Dense, state: usize) -> LabelSet
-    requires { state < (meaning «module».now).size }
     ensures { (l : ℕ) → l < 64 → member result.0 l ≡ some_below (meaning «module».now).size (λ t. (meaning «module».now).move t l state) }
 {
     LabelSet::of(|label| arrives(module, label, state))

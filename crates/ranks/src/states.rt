@@ -3,7 +3,7 @@
 ghost use Rattle.std.specs.Prelude.{ℕ, ◌<◌, ◌≤◌, slice_index_or};
 
 /// What `f` gives for each state below `n`, with `rest` behind.
-// Fixed memory: nothing may be allocated here, so there is an element for each state that a machine can have.
+// Fixed memory: an element for each state that a machine can have. No ArrayVec, as only a state is ever an index: none asks how many there are.
 pub(crate) fn by_state<T: Copy, F: Fn(usize) -> T>(n: usize, rest: T, f: F) -> [T; 255]
     requires few { n ≤ 255 }
     requires can { (p : ℕ) → p < n → F.pre f p }

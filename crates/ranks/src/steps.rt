@@ -11,16 +11,16 @@ impl Sides<'_> {
     ghost use Rattle.ranks.specs.Boards.{module_of, answers, answers_all, Leaves};
 
     /// Leaves, with each state that weak-steps on the label to the state, only those that answer with a pair that stands.
+    // A state is asked here and below, since the rows of the board are indexed by it.
     fn strike_label(&self, board: &mut Board, state: usize, label: u8)
         requires { state < (module_of self.now).size }
         ensures { Leaves self.now (λ p q. answers self.now board.old p q state label) board.old board.new }
     {
         let movers = self.module.steps_into(label, Row::empty().with(state));
         let answers = self.contract.steps_into(label, board.stands[state]);
-        // The rows of those that move are narrowed where they lie: an iterator over all rows would say no more.
-        for p in 0..self.module.size {
+        for (p, next) in board.next[..self.module.size].iter_mut().enumerate() {
             if movers.has(p) {
-                board.next[p] = board.next[p].both(answers);
+                *next = next.both(answers);
             }
         }
     }
@@ -40,7 +40,7 @@ impl Sides<'_> {
         ensures { Leaves self.now (λ p q. each_below (module_of self.now).size (λ p'. implies (in_row board.old.changed p') (answers_all self.now board.old p q p'))) board.old board.new }
     {
         let changed = board.changed;
-        // A row has no iterator, and one would be as long as the loop over the states.
+        // By number, since a row of bits has no iterator; a filter over the numbers would ask the same.
         for state in 0..self.module.size {
             if changed.has(state) {
                 self.strike_state(board, state);

@@ -11,5 +11,5 @@ returns c =
     let s = c.args.state in
     let d = c.args.module.now in
     let few = (meaning_sound d).small in
-    ap not c.is_empty.ensures ∙ not_not _ ∙ arrives (meaning d) c.args.label s (in_row c.with.result) c.before-2.result (meaning_sound d) c.requires
+    ap not c.is_empty.ensures ∙ not_not _ ∙ arrives (meaning d) c.args.label s (in_row c.with.result) c.before-2.result (meaning_sound d)
     (λ v h. c.with.ensures v (omega arith) ∙ ap (λ (b : Bool). b || eqb s v) (c.empty.ensures v)) c.before-2.ensures
