@@ -1,4 +1,4 @@
-ghost use Rattle.std.specs.Prelude.{◌≤◌};
+ghost use Rattle.std.specs.Prelude.{◌≤◌, length};
 ghost use Rattle.house.specs.Stored.{Wide, Within};
 
 use arrayvec::ArrayVec;
@@ -14,10 +14,14 @@ mod testing;
 /// No house has more tables.
 const TABLES: usize = 12;
 
+/// The moves of all tables have so many places.
+const MOVES: usize = 1024;
+
 /// No house has another number of seats.
-const SEATS: usize = 6;
+pub const SEATS: usize = 6;
 
 /// A table's states and start, and the places of its moves.
+// By places: the moves lie in the house's own array, of which no slice can be kept.
 #[derive(Clone, Copy, Default)]
 struct Entry {
     states: u8,
@@ -30,11 +34,11 @@ struct Entry {
 #[derive(Drop)]
 pub struct House {
     // An array with a count of what is in use: the reader writes into the free places, and an `ArrayVec` lends none.
-    moves: [Move; 1024],
+    moves: [Move; MOVES],
     used: u16,
     entries: ArrayVec<Entry, TABLES>,
     seats: [Seat; SEATS],
     ghost wide: { Wide moves seats },
-    ghost few: { used ≤ 1024 },
+    ghost few: { (used ≤ 1024) × (length entries.items ≤ 12) },
     ghost within: { Within moves used entries.items seats },
 }

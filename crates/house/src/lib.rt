@@ -4,4 +4,4 @@
 
 mod house;
 
-pub use house::House;
+pub use house::{House, SEATS};

@@ -50,6 +50,7 @@ impl House {
         let names = pile.hidden;
         let inner = self.table_at(pile.table);
         let contract = self.table_at(c);
+        // The two arms make sources of different types, so no closure serves for both.
         match pile.helper {
             None => judge_yes(&Restrict { names, inner }, &contract, workspace),
             Some(h) => {

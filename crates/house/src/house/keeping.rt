@@ -2,10 +2,10 @@ ghost use Rattle.std.specs.Prelude.{◌≡◌, ℕ, ◌+◌, ◌<◌, ◌≤◌,
 ghost use Rattle.lts.specs.Systems.{Lts};
 ghost use Rattle.calls.specs.Contents.{empty_house, table_at, seat_at, with_seat};
 ghost use Rattle.calls.specs.Promises.{StuckOnlyWhereContractsCan};
-ghost use Rattle.house.specs.Stored.{seat_in, listing};
+ghost use Rattle.house.specs.Stored.{seat_in};
 ghost use Rattle.house.specs.Means.{means};
 
-use crate::house::{Entry, House, SEATS};
+use crate::house::{House, MOVES, SEATS};
 use arrayvec::ArrayVec;
 use calls::Seat;
 use lts::systems::System;
@@ -17,7 +17,7 @@ impl House {
         ensures { means result ≡ empty_house }
     {
         House {
-            moves: [Move::default(); 1024],
+            moves: [Move::default(); MOVES],
             used: 0,
             entries: ArrayVec::new(),
             seats: [Seat::Empty; SEATS],
@@ -34,21 +34,12 @@ impl House {
         Some(self.table_at(c))
     }
 
-    /// Where table `c`, which is there, has its moves.
-    fn entry(&self, c: u8) -> Entry
-        requires { c < length (means self.now).tables }
-        ensures within { result.first + result.count ≤ 1024 }
-        ensures listing { listing self.now.moves result ≡ table_at (means self.now).tables c }
-    {
-        self.entries[c as usize]
-    }
-
     /// Table `c`, which is there.
     pub(crate) fn table_at(&self, c: u8) -> Table<'_>
         requires { c < length (means self.now).tables }
         ensures { record { states = result.states; start = result.start; moves = result.moves.now } ≡ table_at (means self.now).tables c }
     {
-        let entry = self.entry(c);
+        let entry = self.entries[c as usize];
         let from = entry.first as usize;
         let to = from + entry.count as usize;
         Table {

@@ -45,7 +45,7 @@ invariant_of-self-2 c =
     let l : h.used + s.moves ≤ 1024 = omega (arith, r.2) in
     record {
       wide = (omega arith, h.wide.1);
-      few = l;
+      few = (l, omega (arith, c.push.ensures.len, c.if-is_full.ensures.fits, eqb-false (length h.entries.items) 12 (sym c.if-is_full.ensures.value)));
       within = within_after h c.store_behind.new.moves (moves_of rt) s c.push.new.self.items r.1 c.push.ensures.items c.in_ok-summary.ensures.stored;
     }
 
