@@ -1,7 +1,7 @@
 //! Runs of calls: a list of calls made on a new house, with the promise that the house keeps.
 #![tactic(auto)]
 
-ghost use Rattle.std.specs.Prelude.{◌≡◌, reverse, length};
+ghost use Rattle.std.specs.Prelude.{◌≡◌, reverse};
 ghost use Rattle.lts.specs.Systems.{Lts};
 ghost use Rattle.calls.specs.Calls.{fit, fit_result, reply, after};
 ghost use Rattle.calls.specs.Histories.{Leaves, left_by, taken_of, replies};
@@ -23,9 +23,8 @@ fn fit_within(
     s: u8,
     pile: Pile,
     room: usize,
-    workspace: &mut [u8],
+    workspace: &mut [u8; MOST_ROOM],
 ) -> Result<Verdict, Refusal>
-    requires { length workspace.old ≡ 260100 }
     ensures answer { result ≡ fit_result (means house.old) s pile room }
     ensures left { means house.new ≡ after (means house.old) (fit s pile room) }
 {
@@ -34,8 +33,7 @@ fn fit_within(
 }
 
 /// Makes one call, with a workspace as long as it names.
-fn make(house: &mut House, request: &Request<&[u8]>, workspace: &mut [u8]) -> Result<Reply, Refusal>
-    requires { length workspace.old ≡ 260100 }
+fn make(house: &mut House, request: &Request<&[u8]>, workspace: &mut [u8; MOST_ROOM]) -> Result<Reply, Refusal>
     ensures answer { result ≡ reply (means house.old) (call_of request.now) }
     ensures left { means house.new ≡ after (means house.old) (call_of request.now) }
 {
@@ -63,7 +61,7 @@ pub fn replay<E: System>(
 {
     let mut workspace = [0u8; MOST_ROOM];
     let mut house = House::new();
-    // No zip with the places: a call whose answer has none is made too.
+    // No zip with the places, and so an index: a zip ends with the places, and a call whose answer has none is made too.
     for (i, request) in requests.iter().enumerate() {
         let answer = make(&mut house, request, &mut workspace);
         if i < answers.len() {

@@ -32,7 +32,7 @@ loop-i-preserved g c =
     ] in (
       subst (λ (cs : List Call). Leaves cs (means c.make-answer.new.house)) (sym (calls_more rs i _ c.loop-i-test.true))
           (goes_on (means c.loop-i.house) _ (means c.make-answer.new.house) c.make-answer.ensures.left (calls_of (take i rs)) c.loop-i.invariant.0),
-      c.make-answer.auto.workspace ∙ c.loop-i.invariant.1,
+      c.make-answer.array_long,
       answers_more rs i _ c.make-answer.result c.args.answers.now c.loop-i.answers c.if-i-answers.answers
           c.loop-i-test.true c.loop-i.invariant.0 c.make-answer.ensures.answer w c.loop-i.invariant.2,
     )
