@@ -18,6 +18,7 @@ pub fn verdict_line(module: &[u8], contract: &[u8], workspace: &mut [u8], line: 
     ensures decimals { FiguresAreDecimals }
 {
     if line.len() < LINE_ROOM {
+        // 0 says that nothing is written: C takes a length and no `Option`.
         return 0;
     }
     line_of(outcome_of(module, contract, workspace)).put(line)

@@ -22,7 +22,7 @@ fn empty_line(input: &[u8]) -> usize
     ensures value { result ≡ gap input.now }
     ensures within { result ≤ length input.now }
 {
-    // A loop: whether a line begins at a byte is told by the byte before it.
+    // A loop: of an empty line at the input's front `windows(2)` shows no pair, so it would be a case of its own.
     let mut fresh = true;
     for (at, byte) in input.iter().enumerate() {
         let ends = *byte == b'\n';
@@ -38,10 +38,7 @@ fn empty_line(input: &[u8]) -> usize
 fn behind(rest: &[u8]) -> &[u8]
     ensures { result.now ≡ drop 1 rest.now }
 {
-    match rest {
-        [] => &[],
-        [_, behind @ ..] => behind,
-    }
+    rest.get(1..).unwrap_or(&[])
 }
 
 /// The same of one input that holds both texts, parted by its first empty line; without one the contract's text is empty.
@@ -56,6 +53,7 @@ pub fn verdict_line_of_input(input: &[u8], workspace: &mut [u8], line: &mut [u8]
     ensures worked { WorkedCases }
 {
     if line.len() < LINE_ROOM {
+        // 0 says that nothing is written: C takes a length and no `Option`.
         return 0;
     }
     if input.len() > LONGEST {

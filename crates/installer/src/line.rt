@@ -14,8 +14,8 @@ impl Text {
         ensures { text_of result ≡ grown self (44 ∷ parted 44 (label_fields label)) }
     {
         match label {
-            Some(label) if label < NAMES => self.with(b',').with(b'?').number(label as usize),
-            Some(label) => self.with(b',').with(b'!').number((label - NAMES) as usize),
+            Some(label) if label < NAMES => self.with(b',').with(b'?').field(label as usize),
+            Some(label) => self.with(b',').with(b'!').field((label - NAMES) as usize),
             None => self.with(b',').with(b','),
         }
     }
@@ -26,10 +26,10 @@ impl Text {
     {
         match counterexample {
             Counterexample::Move { label, state } => {
-                self.with(b',').with(b'1').label(Some(label)).number(state)
+                self.with(b',').with(b'1').label(Some(label)).field(state)
             }
             Counterexample::Rest { label, state } => {
-                self.with(b',').with(b'2').label(label).number(state)
+                self.with(b',').with(b'2').label(label).field(state)
             }
         }
     }
@@ -41,17 +41,17 @@ fn verdict_fields(verdict: Verdict) -> Text
 {
     match verdict.answer {
         Answer::Yes => Text::of(b"yes")
-            .number(verdict.states)
-            .number(verdict.others)
-            .number(verdict.highest as usize)
-            .number(verdict.standing as usize),
+            .field(verdict.states)
+            .field(verdict.others)
+            .field(verdict.highest as usize)
+            .field(verdict.standing as usize),
         Answer::No {
             round,
             counterexample,
         } => Text::of(b"no")
-            .number(verdict.states)
-            .number(verdict.others)
-            .number(round as usize)
+            .field(verdict.states)
+            .field(verdict.others)
+            .field(round as usize)
             .failing(counterexample),
     }
 }
@@ -61,10 +61,10 @@ fn refusal_fields(refused: Refused) -> Text
     ensures { text_of result ≡ cut (parted 44 (refusal_fields refused)) }
 {
     Text::of(b"refused")
-        .number(refused.number as usize)
-        .number(refused.text as usize)
-        .number(refused.line)
-        .number(refused.field as usize)
+        .field(refused.number as usize)
+        .field(refused.text as usize)
+        .field(refused.line)
+        .field(refused.field as usize)
 }
 
 /// The line of an outcome.

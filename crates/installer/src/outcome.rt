@@ -4,8 +4,8 @@ ghost use Rattle.installer.specs.Outcomes.{faulty, unjudged};
 use source::refusal::Refusal;
 use table::Fault;
 
-/// Why there is no verdict: the refusal's number, the text it is about (1 or 2), its line and its field; 0 where nothing
-/// applies, as the line has it.
+/// Why there is no verdict: the refusal's number, the text it is about (1 or 2), its line and its field.
+// No `Option`s: the line has these four numbers, 0 where nothing applies.
 #[derive(Clone, Copy, PartialEq, Eq, Debug)]
 pub(crate) struct Refused {
     pub(crate) number: u8,

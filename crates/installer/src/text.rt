@@ -31,10 +31,7 @@ impl Text {
     pub(crate) fn with(mut self, byte: u8) -> Text
         ensures { text_of result ≡ grown self (byte ∷ []) }
     {
-        if self.bytes.is_full() {
-            return self;
-        }
-        self.bytes.push(byte);
+        let _ = self.bytes.try_push(byte);
         self
     }
 
@@ -42,7 +39,7 @@ impl Text {
     fn digits(self, places: u8, n: usize) -> Text
         ensures { text_of result ≡ grown self (digits places n) }
     {
-        // By hand: a line's numbers have five digits at most, so none needs a bound, and those of the worked cases compute.
+        // By hand: five places serve for every number of a line, and a line with its digits made so can be computed in a proof.
         if places == 0 {
             return self;
         }
@@ -54,8 +51,8 @@ impl Text {
         front.with(b'0' + (n % 10) as u8)
     }
 
-    /// With a comma and a number.
-    pub(crate) fn number(self, n: usize) -> Text
+    /// With one field more: a comma and a number.
+    pub(crate) fn field(self, n: usize) -> Text
         ensures { text_of result ≡ grown self (44 ∷ figure n) }
     {
         self.with(b',').digits(5, n)

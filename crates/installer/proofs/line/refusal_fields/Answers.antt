@@ -7,4 +7,4 @@ pub returns : goal.returns
 returns c =
     let r = c.args.refused in
     fields (codes "refused") (figure r.number) (figure r.text) (figure r.line) (figure r.field)
-    c.of.ensures c.number.ensures c.number-2.ensures c.number-3.ensures c.number-4.ensures
+    c.of.ensures c.field.ensures c.field-2.ensures c.field-3.ensures c.field-4.ensures

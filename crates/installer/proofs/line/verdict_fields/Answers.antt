@@ -10,7 +10,7 @@ pub returns-in-Yes : goal.returns-in-Yes
 returns-in-Yes c =
     let v = c.args.verdict in
     fields (codes "yes") (figure v.states) (figure v.others) (figure v.highest) (figure v.standing)
-    c.of.ensures c.number.ensures c.number-in-Yes.ensures c.number-in-Yes-2.ensures c.number-in-Yes-3.ensures
+    c.of.ensures c.field.ensures c.field-in-Yes.ensures c.field-in-Yes-2.ensures c.field-in-Yes-3.ensures
     ∙ sym (ap (λ (a : Answer). take 40 (parted 44 (answer_fields v a))) c.in-Yes.is)
 
 pub returns-in-No : goal.returns-in-No
@@ -18,5 +18,5 @@ returns-in-No c =
     let v = c.args.verdict in
     let x = c.in-No.counterexample in
     fields (codes "no") (figure v.states) (figure v.others) (figure c.in-No.round) (parted 44 (failing_fields x))
-    c.of-in-No.ensures c.number-in-No.ensures c.number-in-No-2.ensures c.number-in-No-3.ensures c.failing.ensures
+    c.of-in-No.ensures c.field-in-No.ensures c.field-in-No-2.ensures c.field-in-No-3.ensures c.failing.ensures
     ∙ ap (take 40) (no_parted v c.in-No.round x) ∙ sym (ap (λ (a : Answer). take 40 (parted 44 (answer_fields v a))) c.in-No.is)

@@ -11,7 +11,7 @@ returns-in-Move c =
     let t = text_of c.args.self in
     let l = c.in-Move.label in
     let p = c.in-Move.state in
-    four t (44 ∷ []) (49 ∷ []) (44 ∷ parted 44 (label_fields (Some l))) (44 ∷ figure p) c.with.ensures c.with-in-Move.ensures c.label.ensures c.number.ensures
+    four t (44 ∷ []) (49 ∷ []) (44 ∷ parted 44 (label_fields (Some l))) (44 ∷ figure p) c.with.ensures c.with-in-Move.ensures c.label.ensures c.field.ensures
     ∙ ap (λ (z : List ℕ). take 40 (t ++ 44 ∷ z)) (moved c.args.counterexample l p c.in-Move.is)
 
 pub returns-in-Rest : goal.returns-in-Rest
@@ -19,5 +19,5 @@ returns-in-Rest c =
     let t = text_of c.args.self in
     let l = c.in-Rest.label in
     let p = c.in-Rest.state in
-    four t (44 ∷ []) (50 ∷ []) (44 ∷ parted 44 (label_fields l)) (44 ∷ figure p) c.with-in-Rest.ensures c.with-in-Rest-2.ensures c.label-in-Rest.ensures c.number-in-Rest.ensures
+    four t (44 ∷ []) (50 ∷ []) (44 ∷ parted 44 (label_fields l)) (44 ∷ figure p) c.with-in-Rest.ensures c.with-in-Rest-2.ensures c.label-in-Rest.ensures c.field-in-Rest.ensures
     ∙ ap (λ (z : List ℕ). take 40 (t ++ 44 ∷ z)) (rested c.args.counterexample l p c.in-Rest.is)

@@ -8,7 +8,7 @@ pub returns-in-Some : goal.returns-in-Some
 returns-in-Some c =
     let t = text_of c.args.self in
     let l = c.in-Some.label in
-    three t (44 ∷ []) (63 ∷ []) (44 ∷ figure l) c.with.ensures c.with-in-Some.ensures c.number.ensures
+    three t (44 ∷ []) (63 ∷ []) (44 ∷ figure l) c.with.ensures c.with-in-Some.ensures c.field.ensures
     ∙ ap (λ (z : List ℕ). take 40 (t ++ 44 ∷ z)) (receives l c.args.label c.in-Some.is c.if-label-lt-NAMES.true)
 
 pub returns-in-Some-2 : goal.returns-in-Some-2
@@ -16,7 +16,7 @@ returns-in-Some-2 c =
     let t = text_of c.args.self in
     let l = c.in-Some-2.label in
     let same : c.in-Some.label ≡ l = cc (c.in-Some.is, c.in-Some-2.is) in
-    three t (44 ∷ []) (33 ∷ []) (44 ∷ figure (l - 32)) c.with-in-Some-2.ensures c.with-in-Some-2-2.ensures c.number-in-Some-2.ensures
+    three t (44 ∷ []) (33 ∷ []) (44 ∷ figure (l - 32)) c.with-in-Some-2.ensures c.with-in-Some-2-2.ensures c.field-in-Some-2.ensures
     ∙ ap (λ (z : List ℕ). take 40 (t ++ 44 ∷ z)) (sends l c.args.label c.in-Some-2.is (omega (arith, same)))
 
 pub returns-in-None : goal.returns-in-None

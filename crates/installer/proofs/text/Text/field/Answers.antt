@@ -2,7 +2,7 @@ use Rattle.std.proofs.Common.{◌∷◌, []}
 use Rattle.installer.specs.Figures.{figure}
 use Rattle.installer.specs.Texts.{text_of}
 use Rattle.installer.proofs.Fields.{two}
-use Rattle.installer.proofs.text.Text.number.Goals as goal
+use Rattle.installer.proofs.text.Text.field.Goals as goal
 
 pub returns : goal.returns
 unfolding figure
