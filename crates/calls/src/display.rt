@@ -8,6 +8,7 @@ use std::fmt;
 
 impl fmt::Display for Refusal {
     fn fmt<W: fmt::Write>(&self, f: &mut fmt::Formatter<W>) -> fmt::Result {
+        let number = self.number();
         let reason = match *self {
             Refusal::Text(fault) => return write!(f, "{fault}"),
             Refusal::NoPlace => "the house has twelve tables, and no place for another",
@@ -29,11 +30,11 @@ impl fmt::Display for Refusal {
                 let failing = Failing(counterexample);
                 return write!(
                     f,
-                    "refusal 12: the verdict is no, since {failing} (round {round})"
+                    "refusal {number}: the verdict is no, since {failing} (round {round})"
                 );
             }
         };
-        write!(f, "refusal {}: {reason}", self.number())
+        write!(f, "refusal {number}: {reason}")
     }
 }
 

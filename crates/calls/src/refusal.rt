@@ -34,6 +34,7 @@ pub enum Refusal {
 
 impl Refusal {
     /// The refusal's number, by which lines and statements name it.
+    // The number is the format's.
     pub fn number(&self) -> u8
         ensures { result ≡ number self.now }
     {

@@ -22,6 +22,7 @@ pub enum Fault {
 
 impl Fault {
     /// The refusal's number.
+    // The number is the format's.
     pub fn number(&self) -> u8
         ensures { result ≡ number self.now }
     {
@@ -33,8 +34,8 @@ impl Fault {
         }
     }
 
-    // The format tells 0 for no line and for no field, so these are no `Option`.
     /// The line of the fault, or 0 where it is in no line.
+    // No `Option`: the format has 0 for no line.
     pub fn line(&self) -> usize
         ensures { result ≡ line_of self.now }
     {
@@ -49,6 +50,7 @@ impl Fault {
     }
 
     /// The field of the fault, or 0 where it is in no field.
+    // No `Option`: the format has 0 for no field.
     pub fn field(&self) -> u8
         ensures { result ≡ field_of self.now }
     {

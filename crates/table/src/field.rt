@@ -63,6 +63,7 @@ impl<'a> Field<'a> {
         let [b] = self.bytes else {
             return Err(none);
         };
+        // A rule of the project: the way is matched as a character.
         match *b as char {
             '?' => Ok(Way::Receive),
             '!' => Ok(Way::Send),

@@ -15,8 +15,8 @@ pub enum Line {
     Step(Move),
 }
 
-// Not an `Option<Head>`: by the stage's name and the kind's it is told which line may stand where.
 /// Whether the first line stands behind, and what it said.
+// A rule of the project, so no `Option<Head>`: which line may stand where is told by the names of stage and kind.
 #[derive(Clone, Copy)]
 pub(crate) enum Stage {
     BeforeHead,
@@ -36,6 +36,7 @@ impl Stage {
 }
 
 /// A line by its first word.
+// A rule of the project, so no match on the words: which line may stand where is told by the names of stage and kind.
 #[derive(Clone, Copy)]
 enum Kind {
     Table,
@@ -66,6 +67,7 @@ fn fields_of(line: &[u8]) -> ArrayVec<&[u8], MOST>
     ensures { map (λ f. f.now) result.items ≡ take 6 (pieces 44 line.now) }
 {
     let mut fields = ArrayVec::new();
+    // By hand: `extend` answers a `Result`, which after `take` is always `Ok`.
     for field in line.split(|b| *b == b',').take(MOST) {
         fields.push(field);
     }

@@ -5,8 +5,8 @@ use crate::line::Stage;
 
 mod lines;
 
-// The whole text with a place in it, and not what is left of it: the place bounds the number of lines before it.
 /// Hands out the lines of a text one after another, up to the first fault.
+// The whole text with a place in it, and not what is left of it: the place bounds the number of lines before it.
 #[derive(Drop)]
 pub struct Reader<'a> {
     text: &'a [u8],

@@ -6,8 +6,8 @@ use crate::fault::Fault;
 use crate::line::{Line, read_line};
 
 impl Reader<'_> {
-    // No `Iterator`: at a fault the reader stays and answers it again, so its items would have no end.
     /// The next line or the fault in it, and nothing where the text ends; at a fault the reader stays.
+    // No `Iterator`: at a fault the reader stays and answers it again, so no loop over it would be known to end.
     pub fn next(&mut self) -> Option<Result<Line, Fault>>
         ensures value { result ≡ next_line self.old }
         ensures onward { Onward result self.old self.new }
