@@ -9,6 +9,7 @@ use calls::Pile;
 use table::small_figure;
 
 /// A call on a house, as a line makes it.
+// Not a `Request<&str>`: a line does not say how long the workspace of a fit is.
 #[derive(Clone, Copy, PartialEq, Eq, Debug)]
 pub enum Command<'a> {
     /// Read the table in this file, and keep it.

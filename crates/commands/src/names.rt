@@ -13,24 +13,25 @@ pub(crate) fn names_of(word: &[u8]) -> Option<NameSet>
     ensures { option_map (λ names. names.0) result ≡ word_names word.now }
 {
     match word {
-        b"-" => Some(NameSet(0)),
-        _ => list_names(word).map(NameSet),
+        b"-" => Some(NameSet::NONE),
+        _ => list_names(word),
     }
 }
 
-/// The names of a list, as bits.
-fn list_names(word: &[u8]) -> Option<u32>
-    ensures { result ≡ list_names word.now }
+/// The names of a list.
+fn list_names(word: &[u8]) -> Option<NameSet>
+    ensures { option_map (λ names. names.0) result ≡ list_names word.now }
 {
-    word.split(|b| *b == b',').try_fold(0, with_name_of)
+    word.split(|b| *b == b',')
+        .try_fold(NameSet::NONE, with_name_of)
 }
 
 /// The names with the one that the bytes write.
-fn with_name_of(names: u32, bytes: &[u8]) -> Option<u32>
-    ensures { result ≡ with_name_of names bytes.now }
+fn with_name_of(names: NameSet, bytes: &[u8]) -> Option<NameSet>
+    ensures { option_map (λ more. more.0) result ≡ with_name_of names.0 bytes.now }
 {
     let name = name_of(bytes)?;
-    Some(names | (1 << name))
+    Some(names.with(name))
 }
 
 /// The name that the bytes write.

@@ -14,6 +14,7 @@ pub(crate) fn words_of(line: &str) -> ArrayVec<&str, MOST>
     ensures { array_vec_len result < 6 → Words line.now (map (λ x. x.now) result.items) }
 {
     let mut words = ArrayVec::new();
+    // By hand: `extend` answers a `Result`, which after `take` is always `Ok`.
     for word in line.split_whitespace().take(MOST) {
         words.push(word);
     }
