@@ -33,7 +33,11 @@ fn fit_within(
 }
 
 /// Makes one call, with a workspace as long as it names.
-fn make(house: &mut House, request: &Request<&[u8]>, workspace: &mut [u8; MOST_ROOM]) -> Result<Reply, Refusal>
+fn make(
+    house: &mut House,
+    request: &Request<&[u8]>,
+    workspace: &mut [u8; MOST_ROOM],
+) -> Result<Reply, Refusal>
     ensures answer { result ≡ reply (means house.old) (call_of request.now) }
     ensures left { means house.new ≡ after (means house.old) (call_of request.now) }
 {
