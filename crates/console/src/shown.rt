@@ -2,8 +2,10 @@
 
 ghost use Rattle.std.specs.Prelude.{◌≡◌, Some, codes};
 ghost use Rattle.std.specs.Str.{IsUtf8, IsTrimAscii};
-ghost use Rattle.console.specs.Shown.{many_of, letter_shown, text_shown};
+ghost use Rattle.console.specs.Shown.{many_of, letter_shown, text_shown, alone_shown, entry_shown};
 
+use labels::VisibleLabel;
+use search::StuckState;
 use std::fmt;
 
 /// A number of things, in the singular or the plural.
@@ -58,5 +60,52 @@ impl fmt::Display for Shown<'_> {
             f.write_str("..")?;
         }
         Ok(())
+    }
+}
+
+// Where a table can get stuck alone, as a line.
+#[derive(Clone, Copy)]
+struct Alone(Option<StuckState>);
+
+impl fmt::Display for Alone {
+    ghost output = { λ a. Some (alone_shown a.0) };
+
+    fn fmt<W: fmt::Write>(&self, f: &mut fmt::Formatter<W>) -> fmt::Result {
+        match self.0 {
+            None => writeln!(f, "  alone it cannot get stuck"),
+            Some(found) => {
+                let (state, label) = (found.state, VisibleLabel(found.label));
+                writeln!(
+                    f,
+                    "  alone it can get stuck in state {state}, waiting for {label}"
+                )
+            }
+        }
+    }
+}
+
+/// A table under its number, what it holds, and where it can get stuck alone.
+#[derive(Clone, Copy)]
+pub struct Entry {
+    pub number: usize,
+    pub states: u8,
+    pub start: u8,
+    /// How many moves it has.
+    pub moves: usize,
+    pub stuck: Option<StuckState>,
+}
+
+impl fmt::Display for Entry {
+    ghost output = { λ e. Some (entry_shown e) };
+
+    fn fmt<W: fmt::Write>(&self, f: &mut fmt::Formatter<W>) -> fmt::Result {
+        let (number, start) = (self.number, self.start);
+        let states = Many(self.states as u64, "state");
+        let moves = Many(self.moves as u64, "move");
+        let alone = Alone(self.stuck);
+        write!(
+            f,
+            "  table {number}: {states}, start {start}, {moves}\n{alone}"
+        )
     }
 }

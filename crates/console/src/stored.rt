@@ -9,7 +9,7 @@ use std::alloc::{AllocError, Global};
 use table::{Fault, Summary};
 
 /// No table that is kept has more moves.
-pub const ROOM: usize = 1024;
+pub const MOST_KEPT: usize = 1024;
 
 /// A table with its moves.
 #[derive(Drop)]
@@ -49,7 +49,7 @@ impl Stored {
         ensures { Keeps text.now result }
     {
         let checked = table::check(text);
-        let most = checked.found()?.moves.min(ROOM);
+        let most = checked.found()?.moves.min(MOST_KEPT);
         let mut moves = vec![in alloc; Move::default(); most]?;
         let summary = checked.store(moves.as_mut_slice())?;
         Ok(Stored { summary, moves })

@@ -5,6 +5,7 @@ ghost use Rattle.counter.specs.Lines.{Says, Words, Two};
 
 use std::str::SplitWhitespace;
 
+// One call of the five of `commands`: counter stands on no house.
 #[derive(Clone, Copy, PartialEq, Eq, Debug)]
 pub enum Command<'a> {
     // Read the table in this file, and keep it.

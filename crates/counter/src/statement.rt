@@ -1,7 +1,6 @@
 // The statement: an item for each call, and what they come to at the end.
 use crate::desk::Kept;
-use console::shown::{Many, Shown};
-use labels::VisibleLabel;
+use console::shown::{Entry, Shown};
 use std::io::ErrorKind;
 use std::{fmt, io};
 use table::Fault;
@@ -21,7 +20,7 @@ impl fmt::Display for Item<'_> {
         match self {
             Item::Entered(file, entry) => {
                 writeln!(f, "enter {}", Shown(file))?;
-                outcome(entry, f)
+                show_outcome(entry, f)
             }
             Item::Unread(file, error) => {
                 writeln!(f, "enter {}", Shown(file))?;
@@ -35,30 +34,25 @@ impl fmt::Display for Item<'_> {
     }
 }
 
-fn outcome<W: fmt::Write>(entry: &Result<Kept, Fault>, f: &mut fmt::Formatter<W>) -> fmt::Result {
-    match entry {
-        Ok(kept) => write!(f, "{kept}"),
+fn show_outcome<W: fmt::Write>(
+    outcome: &Result<Kept, Fault>,
+    f: &mut fmt::Formatter<W>,
+) -> fmt::Result {
+    match outcome {
+        Ok(kept) => write!(f, "{}", Entry::from(*kept)),
         Err(fault) => writeln!(f, "  {fault}"),
     }
 }
 
-impl fmt::Display for Kept {
-    fn fmt<W: fmt::Write>(&self, f: &mut fmt::Formatter<W>) -> fmt::Result {
-        let number = self.number;
-        let states = Many(self.summary.states as u64, "state");
-        let start = self.summary.start;
-        let moves = Many(self.summary.moves as u64, "move");
-        writeln!(f, "  table {number}: {states}, start {start}, {moves}")?;
-        match self.stuck {
-            Some(found) => {
-                let state = found.state;
-                let label = VisibleLabel(found.label);
-                writeln!(
-                    f,
-                    "  alone it can get stuck in state {state}, waiting for {label}"
-                )
-            }
-            None => writeln!(f, "  alone it cannot get stuck"),
+impl From<Kept> for Entry {
+    fn from(kept: Kept) -> Entry {
+        let summary = kept.summary;
+        Entry {
+            number: kept.number,
+            states: summary.states,
+            start: summary.start,
+            moves: summary.moves,
+            stuck: kept.stuck,
         }
     }
 }

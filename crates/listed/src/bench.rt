@@ -6,7 +6,7 @@ use std::str::FromStr;
 use std::{env, fmt, fs};
 
 // No text has room for more moves.
-const ROOM: usize = 4096;
+const MOST_READ: usize = 4096;
 
 /// Does the work on the text of a file as often as the program's argument says, with room for the moves of any text, and
 /// prints what comes of it.
@@ -21,7 +21,7 @@ where
     let word = env::args(rt)?.nth(1).context(wanted)?;
     let turns = word.as_str().parse::<N>()?;
     let text = fs::read(rt, file)?;
-    let mut moves = vec![in rt.alloc(); Move::default(); ROOM]?;
+    let mut moves = vec![in rt.alloc(); Move::default(); MOST_READ]?;
     println!(rt; "{}", work(text.as_slice(), turns, moves.as_mut_slice()))?;
     Ok(())
 }

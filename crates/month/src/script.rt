@@ -52,10 +52,8 @@ pub fn read(rt: &HostRuntime) -> anyhow::Result<Vec<Item>> {
 // What a line asks for; nothing if it is blank.
 fn call_of(rt: &HostRuntime, line: &[u8]) -> Result<Option<Request<Vec<u8>>>, NoCall> {
     let words = std::str::from_utf8(line).map_err(|_| Unclear)?;
-    match parse(words)? {
-        Some(command) => Ok(Some(request_of(rt, command)?)),
-        None => Ok(None),
-    }
+    let command = parse(words)?;
+    Ok(command.map(|command| request_of(rt, command)).transpose()?)
 }
 
 // A fit is lent as much workspace as any verdict wants.

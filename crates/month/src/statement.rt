@@ -2,7 +2,7 @@
 use crate::script::{Item, NoCall};
 use crate::whole;
 use calls::{Pile, Refusal, Reply, Seat};
-use console::shown::{Many, Shown};
+use console::shown::{Entry, Shown};
 use house::House;
 use judge::verdict::Verdict;
 use labels::{NameSet, VisibleLabel};
@@ -24,7 +24,7 @@ Each line of the input is a call:
 #[derive(Clone, Copy)]
 pub struct Statement<'a> {
     pub items: &'a [Item],
-    // Of the calls among the items, in order, as `replay` writes them.
+    // Of the calls among the items alone, in order, as `replay` writes them: no item holds its own.
     pub replies: &'a [Result<Reply, Refusal>],
     pub house: &'a House,
 }
@@ -90,21 +90,14 @@ fn show_table<W: fmt::Write>(house: &House, number: u8, f: &mut fmt::Formatter<W
     let Some(table) = house.table(number) else {
         return Ok(());
     };
-    let states = Many(table.states as u64, "state");
-    let moves = Many(table.moves.len() as u64, "move");
-    let start = table.start;
-    writeln!(f, "  table {number}: {states}, start {start}, {moves}")?;
-    match search_alone(&table) {
-        Some(found) => {
-            let state = found.state;
-            let label = VisibleLabel(found.label);
-            writeln!(
-                f,
-                "  alone it can get stuck in state {state}, waiting for {label}"
-            )
-        }
-        None => writeln!(f, "  alone it cannot get stuck"),
-    }
+    let entry = Entry {
+        number: number as usize,
+        states: table.states,
+        start: table.start,
+        moves: table.moves.len(),
+        stuck: search_alone(&table),
+    };
+    write!(f, "{entry}")
 }
 
 fn show_verdict<W: fmt::Write>(verdict: &Verdict, f: &mut fmt::Formatter<W>) -> fmt::Result {
