@@ -5,14 +5,12 @@ ghost use Rattle.judge.specs.Verdicts.{judged};
 use judge::judging::judge;
 use judge::relation::EveryPair;
 use judge::verdict::{Answer, Verdict};
-use listed::shown::{Bytes, Failing};
+use listed::shown::{Bytes, Failing, Yes};
+use listed::untouched;
 use source::refusal::Refusal;
 use source::source::Source;
 use std::alloc::{AllocError, Global};
 use std::fmt;
-
-// What a workspace holds before it is judged on, so that untouched bytes show.
-const UNTOUCHED: u8 = 7;
 
 #[derive(Drop)]
 pub struct Judged {
@@ -29,7 +27,7 @@ impl Judged {
     ) -> Result<Judged, AllocError>
         ensures { IfOk result (λ j. j.verdict ≡ judged (P.Source.means «module».now) (Q.Source.means contract.now) room) }
     {
-        let mut workspace = vec![in alloc; UNTOUCHED; room as usize]?;
+        let mut workspace = untouched(alloc, room as usize)?;
         let verdict = judge::<EveryPair, P, Q>(module, contract, workspace.as_mut_slice());
         Ok(Judged { verdict, workspace })
     }
@@ -46,16 +44,13 @@ impl fmt::Display for Judged {
 }
 
 fn show_verdict<W: fmt::Write>(verdict: Verdict, f: &mut fmt::Formatter<W>) -> fmt::Result {
-    let (states, others) = (verdict.states, verdict.others);
     match verdict.answer {
-        Answer::Yes => {
-            let (highest, standing) = (verdict.highest, verdict.standing);
-            write!(f, "yes,{states},{others},{highest},{standing}")
-        }
+        Answer::Yes => write!(f, "{}", Yes(verdict)),
         Answer::No {
             round,
             counterexample,
         } => {
+            let (states, others) = (verdict.states, verdict.others);
             let failing = Failing(counterexample);
             write!(f, "no,{states},{others},{round},{failing}")
         }

@@ -1,10 +1,8 @@
 // The piles that the cases name, judged against their contracts.
 use crate::case::{Case, Shape};
 use crate::judged::Judged;
-use labels::NameSet;
-use layers::parallel::Parallel;
 use layers::relabel::Relabel;
-use layers::restrict::Restrict;
+use listed::layered::{beside, hidden};
 use listed::lines::Unanswered;
 use listed::table_of;
 use source::source::Source;
@@ -39,6 +37,7 @@ pub fn answer_to(alloc: Global, line: &[u8]) -> Result<Judged, Unanswered> {
     };
     let names = case.hidden;
     let left = first.table();
+    // Each shape is a source of another type, so no closure stands for all.
     match case.shape {
         Shape::Plain => contract.judge(&left),
         Shape::Hidden => contract.judge(&hidden(names, left)),
@@ -48,14 +47,6 @@ pub fn answer_to(alloc: Global, line: &[u8]) -> Result<Judged, Unanswered> {
             contract.judge(&backwards(hidden(names, beside(left, second?.table())))?)
         }
     }
-}
-
-fn hidden<S>(names: NameSet, inner: S) -> Restrict<S> {
-    Restrict { names, inner }
-}
-
-fn beside<L, R>(left: L, right: R) -> Parallel<L, R> {
-    Parallel { left, right }
 }
 
 // In which name k becomes 31 - k.

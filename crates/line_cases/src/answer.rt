@@ -3,11 +3,9 @@ use crate::case::{Call, Case};
 use installer::{verdict_line, verdict_line_of_input};
 use listed::lines::Unanswered;
 use listed::shown::Bytes;
+use listed::untouched;
 use std::alloc::Global;
 use std::fmt;
-
-// What both buffers hold before the call, so that untouched bytes show.
-const UNTOUCHED: u8 = 7;
 
 #[derive(Drop)]
 pub struct Answer {
@@ -17,10 +15,10 @@ pub struct Answer {
 }
 
 impl Answer {
-    pub fn to(heap: Global, line: &[u8]) -> Result<Answer, Unanswered> {
-        let case = Case::read(heap, line)?;
-        let mut workspace = vec![in heap; UNTOUCHED; case.room as usize]?;
-        let mut line = vec![in heap; UNTOUCHED; case.buffer as usize]?;
+    pub fn of(alloc: Global, line: &[u8]) -> Result<Answer, Unanswered> {
+        let case = Case::read(alloc, line)?;
+        let mut workspace = untouched(alloc, case.room as usize)?;
+        let mut line = untouched(alloc, case.buffer as usize)?;
         let length = make(&case.call, workspace.as_mut_slice(), line.as_mut_slice());
         Ok(Answer {
             length,

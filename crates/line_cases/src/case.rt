@@ -20,13 +20,13 @@ pub struct Case {
 }
 
 impl Case {
-    pub fn read(heap: Global, line: &[u8]) -> Result<Case, Unanswered> {
-        let fields: Vec<&[u8]> = line.splitn(5, |byte| *byte == b',').collect(heap)?;
+    pub fn read(alloc: Global, line: &[u8]) -> Result<Case, Unanswered> {
+        let fields: Vec<&[u8]> = line.splitn(5, |byte| *byte == b',').collect(alloc)?;
         let [call, room, buffer, first, text] = fields.as_slice() else {
             return Err(Unanswered::Unclear);
         };
         Ok(Case {
-            call: call_of(number(call)?, number(first)?, decode(heap, text)?)?,
+            call: call_of(number(call)?, number(first)?, decode(alloc, text)?)?,
             room: number(room)?,
             buffer: number(buffer)?,
         })
@@ -36,12 +36,15 @@ impl Case {
 // The call of this number, on bytes of which so many are the first text.
 fn call_of(call: u32, first: u32, mut bytes: Vec<u8>) -> Result<Call, Unanswered> {
     let first = first as usize;
+    if first > bytes.len() {
+        return Err(Unanswered::Unclear);
+    }
     match call {
-        1 if first <= bytes.len() => {
+        1 => {
             let second = bytes.split_off(first)?;
             Ok(Call::Texts(bytes, second))
         }
-        2 if first <= bytes.len() => Ok(Call::Input(bytes)),
+        2 => Ok(Call::Input(bytes)),
         _ => Err(Unanswered::Unclear),
     }
 }

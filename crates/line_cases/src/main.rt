@@ -9,6 +9,6 @@ use listed::lines::answer_lines;
 use std::io;
 
 fn main(rt: HostRuntime) -> io::Result<()> {
-    let heap = rt.alloc();
-    answer_lines(&rt, |line| Answer::to(heap, line))
+    let alloc = rt.alloc();
+    answer_lines(&rt, |line| Answer::of(alloc, line))
 }

@@ -2,11 +2,15 @@
 //! bytes and counterexamples are shown.
 #![tactic(auto)]
 
+ghost use Rattle.std.specs.Prelude.{◌≡◌, IfOk, replicate};
+
 pub mod bench;
 pub mod fields;
+pub mod layered;
 pub mod lines;
 pub mod one_line;
 pub mod shown;
+pub mod sum;
 
 use crate::lines::Unanswered;
 use console::stored::{Stored, Unkept};
@@ -20,6 +24,16 @@ pub fn table_of(alloc: Global, text: &str) -> Result<Stored, Unanswered> {
         Err(Unkept::Refused(_)) => Err(Unanswered::Unread),
         Err(Unkept::OutOfMemory(error)) => Err(error.into()),
     }
+}
+
+// What a buffer holds before it is lent.
+const UNTOUCHED: u8 = 7;
+
+/// A buffer to be lent, in which untouched bytes show.
+pub fn untouched(alloc: Global, length: usize) -> Result<Vec<u8>, AllocError>
+    ensures { IfOk result (λ bytes. bytes.items ≡ replicate length 7) }
+{
+    Ok(vec![in alloc; UNTOUCHED; length]?)
 }
 
 fn with_line_ends(alloc: Global, text: &str) -> Result<Vec<u8>, AllocError> {

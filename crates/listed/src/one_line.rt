@@ -4,6 +4,7 @@ ghost use Rattle.std.specs.Prelude.{◌<◌, ◌≤◌, length, IfSome};
 
 use std::alloc::{AllocError, Global};
 
+/// The bytes of a text on one line.
 pub fn decode(alloc: Global, line: &[u8]) -> Result<Vec<u8>, AllocError> {
     let mut text = Vec::with_capacity(alloc, line.len())?;
     let mut rest = line;

@@ -1,6 +1,7 @@
 //! Bytes and counterexamples, as the cases show them.
 
 use clauses::counterexample::Counterexample;
+use judge::verdict::Verdict;
 use labels::NAMES;
 use std::fmt;
 
@@ -12,6 +13,7 @@ const BASIS: u64 = 0xcbf2_9ce4_8422_2325;
 
 const PRIME: u64 = 0x100_0000_01b3;
 
+/// The hash of FNV-1a, which tells much memory in 64 bits.
 pub fn hash(bytes: &[u8]) -> u64 {
     bytes.iter().fold(
         BASIS,
@@ -39,6 +41,7 @@ impl fmt::Display for Bytes<'_> {
 }
 
 /// The clause, the way and the name of the label where there is one, and the state.
+// Not Display of `Counterexample`: it is told in words in calls and in fields here.
 #[derive(Clone, Copy)]
 pub struct Failing(pub Counterexample);
 
@@ -52,6 +55,18 @@ impl fmt::Display for Failing {
             } => write!(f, "2,{},{state}", Label(label)),
             Counterexample::Rest { label: None, state } => write!(f, "2,,,{state}"),
         }
+    }
+}
+
+/// What is told with a yes: the sizes, the highest rank, and how many pairs stand.
+#[derive(Clone, Copy)]
+pub struct Yes(pub Verdict);
+
+impl fmt::Display for Yes {
+    fn fmt<W: fmt::Write>(&self, f: &mut fmt::Formatter<W>) -> fmt::Result {
+        let (states, others) = (self.0.states, self.0.others);
+        let (highest, standing) = (self.0.highest, self.0.standing);
+        write!(f, "yes,{states},{others},{highest},{standing}")
     }
 }
 

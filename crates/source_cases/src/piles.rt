@@ -1,9 +1,9 @@
 // The piles of layers that the cases name, and what each answers.
 use crate::case::{Case, Shape};
 use crate::told::Told;
-use layers::parallel::Parallel;
 use layers::relabel::Relabel;
 use layers::restrict::Restrict;
+use listed::layered::{beside, hidden};
 use listed::lines::Unanswered;
 use listed::table_of;
 use source::source::Source;
@@ -16,6 +16,7 @@ pub fn answer_to(alloc: Global, line: &[u8]) -> Result<Told, Unanswered> {
     let second = table_of(alloc, case.texts[1]);
     let third = table_of(alloc, case.texts[2]);
     let a = first.table();
+    // Each shape is a source of another type, so no closure stands for all.
     match case.shape {
         Shape::Plain => case.ask(alloc, &a),
         Shape::Hidden => case.ask(alloc, &case.hide(a)),
@@ -39,16 +40,9 @@ pub fn answer_to(alloc: Global, line: &[u8]) -> Result<Told, Unanswered> {
     }
 }
 
-fn beside<L, R>(left: L, right: R) -> Parallel<L, R> {
-    Parallel { left, right }
-}
-
 impl Case<'_> {
     fn hide<S>(&self, inner: S) -> Restrict<S> {
-        Restrict {
-            names: self.hidden,
-            inner,
-        }
+        hidden(self.hidden, inner)
     }
 
     fn rename<S: Source + Drop>(&self, inner: S) -> Result<Relabel<S>, Unanswered> {
@@ -56,6 +50,6 @@ impl Case<'_> {
     }
 
     fn ask<S: Source>(&self, alloc: Global, source: &S) -> Result<Told, Unanswered> {
-        Ok(Told::by(alloc, source, self.names, self.sheet)?)
+        Ok(Told::of(alloc, source, self.names, self.sheet)?)
     }
 }

@@ -5,6 +5,8 @@ ghost use Rattle.lts.specs.Machines.{told_size};
 ghost use Rattle.search.specs.Found.{searched};
 
 use labels::{LabelSet, NameSet};
+use listed::sum::Sum;
+use listed::untouched;
 use search::{StuckState, search};
 use source::refusal::Refusal;
 use source::source::Source;
@@ -16,9 +18,6 @@ const ASKED_OF_TOO_LARGE: u16 = 16;
 
 // One more than the labels, so that a number that is none is asked too.
 const ASKED_LABELS: u8 = 66;
-
-// What a sheet holds before the search, so that untouched bytes show.
-const UNTOUCHED: u8 = 7;
 
 // No more bytes of a sheet are shown.
 const SHOWN: usize = 300;
@@ -39,24 +38,47 @@ struct State {
     stable: bool,
 }
 
-// How many moves there are, and a sum in which each has its place.
+// How many moves there are, and a sum over them.
 #[derive(Clone, Copy, Default)]
 struct Moves {
     many: u64,
-    sum: u32,
+    sum: Sum,
 }
 
 impl Moves {
+    // The moves between the states up to the last.
+    fn of<S: Source>(source: &S, last: u16) -> Moves {
+        let mut moves = Moves::default();
+        for from in 0..=last {
+            moves.leave(source, from, last);
+        }
+        moves
+    }
+
+    fn leave<S: Source>(&mut self, source: &S, from: u16, last: u16) {
+        for label in 0..ASKED_LABELS {
+            self.follow(source, from, label, last);
+        }
+    }
+
+    fn follow<S: Source>(&mut self, source: &S, from: u16, label: u8, last: u16) {
+        for to in 0..=last {
+            if source.has_move(from as usize, label, to as usize) {
+                self.count(from, label, to);
+            }
+        }
+    }
+
     fn count(&mut self, from: u16, label: u8, to: u16) {
-        let code = (from as u32 * 66 + label as u32) * 256 + to as u32 + 1;
+        let code = (from as u64 * ASKED_LABELS as u64 + label as u64) * 256 + to as u64 + 1;
         self.many = self.many.saturating_add(1);
-        self.sum = self.sum.wrapping_mul(31).wrapping_add(code);
+        self.sum.take(code);
     }
 }
 
 impl Told {
     // Asks every state and one beyond the last.
-    pub fn by<S: Source>(
+    pub fn of<S: Source>(
         alloc: Global,
         source: &S,
         names: NameSet,
@@ -66,20 +88,17 @@ impl Told {
         ensures start { IfOk result (λ t. t.start ≡ (S.Source.means source.now).start) }
         ensures stuck { IfOk result (λ t. t.stuck ≡ searched (S.Source.means source.now) (member names.0) room) }
     {
-        let size = source.size();
-        // The line shows the size as sources answer it, with 256 for too large.
-        let last = if size == 256 {
-            ASKED_OF_TOO_LARGE
-        } else {
-            size
-        };
-        let mut sheet = vec![in alloc; UNTOUCHED; room as usize]?;
+        let last = source
+            .states()
+            .map_or(ASKED_OF_TOO_LARGE, |states| states as u16);
+        let mut sheet = untouched(alloc, room as usize)?;
         let stuck = search(source, names, sheet.as_mut_slice());
         Ok(Told {
-            size,
+            // The line shows the size as sources answer it, with 256 for too large.
+            size: source.size(),
             start: source.start(),
             states: states_of(alloc, source, last)?,
-            moves: moves_of(source, last),
+            moves: Moves::of(source, last),
             stuck,
             sheet,
         })
@@ -95,27 +114,19 @@ fn states_of<S: Source>(alloc: Global, source: &S, last: u16) -> Result<Vec<Stat
         .collect(alloc)
 }
 
-fn moves_of<S: Source>(source: &S, last: u16) -> Moves {
-    let mut moves = Moves::default();
-    for from in 0..=last {
-        for label in 0..ASKED_LABELS {
-            for to in 0..=last {
-                if source.has_move(from as usize, label, to as usize) {
-                    moves.count(from, label, to);
-                }
-            }
-        }
-    }
-    moves
-}
-
 impl fmt::Display for Told {
     fn fmt<W: fmt::Write>(&self, f: &mut fmt::Formatter<W>) -> fmt::Result {
         write!(f, "{},{}", self.size, self.start)?;
         for state in self.states.iter() {
             write!(f, ";{:x} {}", state.initials.bits(), state.stable as u8)?;
         }
-        write!(f, ";{},{};", self.moves.many, self.moves.sum)?;
+        // The line has 32 bits of the sum.
+        write!(
+            f,
+            ";{},{};",
+            self.moves.many,
+            self.moves.sum.0 % 0x1_0000_0000
+        )?;
         match self.stuck {
             Ok(None) => write!(f, "none")?,
             Ok(Some(found)) => write!(f, "{},{}", found.state, found.label)?,
