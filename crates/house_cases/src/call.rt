@@ -4,11 +4,12 @@ use labels::NameSet;
 use listed::one_line::decode;
 use std::alloc::{AllocError, Global};
 
-pub fn call_of(heap: Global, piece: &str) -> Result<Option<Request<Vec<u8>>>, AllocError> {
+// Not `commands::parse`: here a fit names its workspace, and hidden names are one number.
+pub fn call_of(alloc: Global, piece: &str) -> Result<Option<Request<Vec<u8>>>, AllocError> {
     if let Some(text) = piece.strip_prefix("enter ") {
-        return Ok(Some(Request::Enter(decode(heap, text.as_bytes())?)));
+        return Ok(Some(Request::Enter(decode(alloc, text.as_bytes())?)));
     }
-    let words: Vec<&str> = piece.split(' ').collect(heap)?;
+    let words: Vec<&str> = piece.split(' ').collect(alloc)?;
     Ok(short_call(words.as_slice()))
 }
 

@@ -10,6 +10,6 @@ use run::Run;
 use std::io;
 
 fn main(rt: HostRuntime) -> io::Result<()> {
-    let heap = rt.alloc();
-    answer_lines(&rt, |line| Run::of(heap, line))
+    let alloc = rt.alloc();
+    answer_lines(&rt, |line| Run::of(alloc, line))
 }

@@ -11,15 +11,15 @@ use std::fmt;
 pub struct Run(Vec<Option<Turn>>);
 
 impl Run {
-    pub fn of(heap: Global, line: &[u8]) -> Result<Run, Unanswered> {
+    pub fn of(alloc: Global, line: &[u8]) -> Result<Run, Unanswered> {
         let words = std::str::from_utf8(line).map_err(|_| Unanswered::Unclear)?;
         let mut house = House::new();
-        let mut turns = Vec::new(heap);
+        let mut turns = Vec::new(alloc);
         for piece in words.split(';') {
-            let turn = match call_of(heap, piece)? {
-                Some(call) => Some(Turn::make(heap, &mut house, &call)?),
-                None => None,
-            };
+            let call = call_of(alloc, piece)?;
+            let turn = call
+                .map(|call| Turn::make(alloc, &mut house, &call))
+                .transpose()?;
             turns.push(turn).map_err(AllocError::from)?;
         }
         Ok(Run(turns))
@@ -28,15 +28,20 @@ impl Run {
 
 impl fmt::Display for Run {
     fn fmt<W: fmt::Write>(&self, f: &mut fmt::Formatter<W>) -> fmt::Result {
-        for (i, turn) in self.0.iter().enumerate() {
-            if i > 0 {
+        if let Some((first, others)) = self.0.split_first() {
+            show_turn(first, f)?;
+            for turn in others {
                 f.write_str(";")?;
-            }
-            match turn {
-                Some(turn) => write!(f, "{turn}")?,
-                None => f.write_str("unclear")?,
+                show_turn(turn, f)?;
             }
         }
         Ok(())
+    }
+}
+
+fn show_turn<W: fmt::Write>(turn: &Option<Turn>, f: &mut fmt::Formatter<W>) -> fmt::Result {
+    match turn {
+        Some(turn) => write!(f, "{turn}"),
+        None => f.write_str("unclear"),
     }
 }

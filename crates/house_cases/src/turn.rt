@@ -1,12 +1,10 @@
 // What comes of a call, and what is on the seats after it.
 use calls::{Pile, Refusal, Reply, Request, Seat};
 use house::House;
-use listed::shown::{Failing, hash};
+use listed::shown::{Failing, Yes, hash};
+use listed::untouched;
 use std::alloc::{AllocError, Global};
 use std::{array, fmt};
-
-// What a workspace holds before it is lent, so that untouched bytes show.
-const UNTOUCHED: u8 = 7;
 
 #[derive(Clone, Copy)]
 pub struct Turn {
@@ -19,7 +17,7 @@ pub struct Turn {
 impl Turn {
     // `replay` makes the same calls, with a workspace that nobody sees.
     pub fn make(
-        heap: Global,
+        alloc: Global,
         house: &mut House,
         call: &Request<Vec<u8>>,
     ) -> Result<Turn, AllocError> {
@@ -28,7 +26,7 @@ impl Turn {
             Request::Enter(text) => house.enter(text.as_slice()).map(Reply::Entered),
             Request::Seat(seat, contract) => house.seat(*seat, *contract).map(|()| Reply::Done),
             Request::Fit(seat, pile, room) => {
-                let mut bytes = vec![in heap; UNTOUCHED; *room]?;
+                let mut bytes = untouched(alloc, *room)?;
                 let verdict = house.fit(*seat, *pile, bytes.as_mut_slice());
                 workspace = Some(hash(bytes.as_slice()));
                 verdict.map(Reply::Fitted)
@@ -68,11 +66,7 @@ impl fmt::Display for Turn {
 fn show_reply<W: fmt::Write>(reply: Reply, f: &mut fmt::Formatter<W>) -> fmt::Result {
     match reply {
         Reply::Entered(number) => write!(f, "table,{number}"),
-        Reply::Fitted(verdict) => {
-            let (states, others) = (verdict.states, verdict.others);
-            let (highest, standing) = (verdict.highest, verdict.standing);
-            write!(f, "yes,{states},{others},{highest},{standing}")
-        }
+        Reply::Fitted(verdict) => write!(f, "{}", Yes(verdict)),
         Reply::Done => write!(f, "done"),
     }
 }
