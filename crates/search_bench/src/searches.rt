@@ -1,4 +1,5 @@
 use labels::NameSet;
+use listed::sum::Sum;
 use search::search;
 use source::table::{Move, Table};
 use std::fmt;
@@ -8,7 +9,7 @@ use std::fmt;
 pub struct Searches {
     turns: u32,
     found: u32,
-    sum: u64,
+    sum: Sum,
 }
 
 impl Searches {
@@ -17,7 +18,7 @@ impl Searches {
         let mut searches = Searches {
             turns,
             found: 0,
-            sum: 0,
+            sum: Sum::default(),
         };
         let Ok(summary) = table::check(text).store(moves) else {
             return searches;
@@ -42,7 +43,7 @@ impl Searches {
         if let Ok(Some(stuck)) = search(table, names, &mut sheet) {
             let word = stuck.state as u64 * 256 + stuck.label as u64;
             self.found = self.found.wrapping_add(1);
-            self.sum = self.sum.wrapping_mul(31).wrapping_add(word);
+            self.sum.take(word);
         }
     }
 }

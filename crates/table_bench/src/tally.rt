@@ -1,3 +1,4 @@
+use listed::sum::Sum;
 use source::table::Move;
 use std::fmt;
 
@@ -7,7 +8,7 @@ pub struct Tally {
     turns: u64,
     bytes: usize,
     read: u64,
-    sum: u64,
+    sum: Sum,
 }
 
 impl Tally {
@@ -16,7 +17,7 @@ impl Tally {
             turns,
             bytes: text.len(),
             read: 0,
-            sum: 0,
+            sum: Sum::default(),
         };
         for turn in 0..turns {
             if let Ok(summary) = table::check(text).store(moves) {
@@ -34,7 +35,7 @@ impl Tally {
         }
         if let Some(step) = moves.get((turn % many) as usize) {
             let word = step.from as u64 * 65536 + step.label as u64 * 256 + step.to as u64;
-            self.sum = self.sum.wrapping_mul(31).wrapping_add(word);
+            self.sum.take(word);
         }
     }
 }
