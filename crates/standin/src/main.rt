@@ -10,14 +10,14 @@ use std::io::Write;
 const WORKSPACE: usize = 65_536;
 
 fn main(rt: HostRuntime) -> io::Result<()> {
-    let heap = rt.alloc();
-    let input = read_text(heap, rt.stdin())?;
+    let alloc = rt.alloc();
+    let input = read_text(alloc, rt.stdin())?;
     if input.is_empty() {
         eprintln!(rt;
             "standin wants two tables on its standard input, the module's first, with an empty line between them"
         )?;
     }
-    let mut workspace = vec![in heap; 0; WORKSPACE]?;
+    let mut workspace = vec![in alloc; 0; WORKSPACE]?;
     let mut line = [0; LINE_ROOM];
     let length = verdict_line_of_input(input.as_slice(), workspace.as_mut_slice(), &mut line);
     rt.stdout().write_all(&line[0..length])
