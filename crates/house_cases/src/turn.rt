@@ -1,6 +1,6 @@
 // What comes of a call, and what is on the seats after it.
 use calls::{Pile, Refusal, Reply, Request, Seat};
-use house::House;
+use house::{House, SEATS};
 use listed::shown::{Failing, Yes, hash};
 use listed::untouched;
 use std::alloc::{AllocError, Global};
@@ -11,7 +11,7 @@ pub struct Turn {
     reply: Result<Reply, Refusal>,
     // A hash of the workspace that a fit was lent.
     workspace: Option<u64>,
-    seats: [Seat; 6],
+    seats: [Seat; SEATS],
 }
 
 impl Turn {
@@ -42,7 +42,7 @@ impl Turn {
     }
 }
 
-fn seats_of(house: &House) -> [Seat; 6] {
+fn seats_of(house: &House) -> [Seat; SEATS] {
     array::from_fn(|seat| house.at(seat as u8).unwrap_or(Seat::Empty))
 }
 

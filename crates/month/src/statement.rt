@@ -3,7 +3,7 @@ use crate::script::{Item, NoCall};
 use crate::whole;
 use calls::{Pile, Refusal, Reply, Seat};
 use console::shown::{Entry, Shown};
-use house::House;
+use house::{House, SEATS};
 use judge::verdict::Verdict;
 use labels::{NameSet, VisibleLabel};
 use search::{StuckState, search_alone};
@@ -48,7 +48,7 @@ impl fmt::Display for Statement<'_> {
             }
         }
         writeln!(f)?;
-        for seat in 0..whole::SEATS {
+        for seat in 0..SEATS as u8 {
             show_seat(self.house, seat, f)?;
         }
         show_stuck(self.house, f)
@@ -127,7 +127,7 @@ fn show_pile<W: fmt::Write>(pile: Pile, f: &mut fmt::Formatter<W>) -> fmt::Resul
     if let Some(helper) = pile.helper {
         write!(f, " beside table {helper}")?;
     }
-    if pile.hidden != NameSet(0) {
+    if pile.hidden != NameSet::NONE {
         write!(f, ", without the names {}", pile.hidden)?;
     }
     writeln!(f)
@@ -143,7 +143,7 @@ fn show_stuck<W: fmt::Write>(house: &House, f: &mut fmt::Formatter<W>) -> fmt::R
     show_found(whole::stuck_in(house, between), f)?;
     writeln!(f)?;
     write!(f, "beside nobody, on all names: ")?;
-    show_found(whole::stuck_in(house, NameSet(u32::MAX)), f)
+    show_found(whole::stuck_in(house, NameSet::ALL), f)
 }
 
 fn show_found<W: fmt::Write>(
