@@ -1,4 +1,7 @@
 // The statement: an item for each call, and what they come to at the end.
+ghost use Rattle.std.specs.Prelude.{◌≡◌};
+ghost use Rattle.counter.specs.Totals.{counted, closed};
+
 use crate::desk::Kept;
 use console::shown::{Entry, Shown};
 use std::io::ErrorKind;
@@ -68,7 +71,9 @@ pub struct Totals {
 
 impl Totals {
     // Counts what leaves no trace at the desk.
-    pub fn count(&mut self, item: &Item<'_>) {
+    pub fn count(&mut self, item: &Item<'_>)
+        ensures { self.new ≡ counted self.old item.now }
+    {
         match item {
             Item::Entered(..) => {}
             Item::Unread(..) => self.unread = self.unread.saturating_add(1),
@@ -76,7 +81,10 @@ impl Totals {
         }
     }
 
-    pub fn close(&mut self, kept: usize, refused: u64) {
+    // Takes over what the desk has counted.
+    pub fn close(&mut self, kept: usize, refused: u64)
+        ensures { self.new ≡ closed self.old kept refused }
+    {
         self.kept = kept as u64;
         self.refused = refused;
     }

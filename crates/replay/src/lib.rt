@@ -41,6 +41,7 @@ fn make(
     ensures answer { result ≡ reply (means house.old) (call_of request.now) }
     ensures left { means house.new ≡ after (means house.old) (call_of request.now) }
 {
+    // A match: the calls differ in what they are given and in what they answer, so no closure stands for all.
     match *request {
         Request::Enter(text) => house.enter(text).map(Reply::Entered),
         Request::Seat(s, c) => house.seat(s, c).map(|()| Reply::Done),

@@ -64,6 +64,7 @@ pub struct Case<'a> {
 }
 
 impl<'a> Case<'a> {
+    // Not `TryFrom`: the fields are kept in a `Vec`, and `try_from` is given no allocator.
     pub fn read(alloc: Global, line: &'a [u8]) -> Result<Case<'a>, Unanswered> {
         let fields: Vec<&'a str> = ascii(line)?.split(';').collect(alloc)?;
         let [shape, hidden, map, names, sheet, first, second, third] = fields.as_slice() else {
