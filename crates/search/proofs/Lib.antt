@@ -1,3 +1,4 @@
 pub mod Visiting
+pub mod Searching
 pub mod Finding
 pub mod Worked
