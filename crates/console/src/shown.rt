@@ -22,6 +22,9 @@ impl fmt::Display for Many {
     }
 }
 
+/// What is shown of a line that is no text.
+pub const NO_TEXT: &str = "text that is not UTF-8";
+
 // The most characters that are shown of a text.
 const SHOWN: usize = 80;
 
@@ -37,7 +40,7 @@ impl<'a> Shown<'a> {
     {
         match std::str::from_utf8(line) {
             Ok(text) => Shown(text.trim_ascii()),
-            Err(_) => Shown("text that is not UTF-8"),
+            Err(_) => Shown(NO_TEXT),
         }
     }
 }
@@ -56,7 +59,8 @@ impl fmt::Display for Shown<'_> {
         for letter in self.0.chars().take(SHOWN) {
             f.write_char(still(letter))?;
         }
-        if self.0.chars().count() > SHOWN {
+        // No further than one character more is looked.
+        if self.0.chars().nth(SHOWN).is_some() {
             f.write_str("..")?;
         }
         Ok(())

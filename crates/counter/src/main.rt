@@ -5,8 +5,9 @@ mod command;
 mod desk;
 mod statement;
 
-use command::{Command, Unclear, parse};
+use command::{Command, parse};
 use console::input::read_file;
+use console::shown::{NO_TEXT, Shown};
 use desk::Desk;
 use statement::{Item, Totals};
 use std::io::{BufRead, BufReader, BufWriter, Write};
@@ -43,12 +44,14 @@ fn answer<'a>(
     match call_of(line) {
         Ok(None) => Ok(None),
         Ok(Some(call)) => Ok(Some(obey(rt, desk, call)?)),
-        Err(Unclear) => Ok(Some(Item::Unclear(at, line))),
+        Err(shown) => Ok(Some(Item::Unclear(at, shown))),
     }
 }
 
-fn call_of(line: &[u8]) -> Result<Option<Command<'_>>, Unclear> {
-    parse(std::str::from_utf8(line).map_err(|_| Unclear)?)
+// What a line asks for, or what is shown of one that is no call.
+fn call_of(line: &[u8]) -> Result<Option<Command<'_>>, Shown<'_>> {
+    let words = std::str::from_utf8(line).map_err(|_| Shown(NO_TEXT))?;
+    parse(words).map_err(|_| Shown(words.trim_ascii()))
 }
 
 fn obey<'a>(rt: &HostRuntime, desk: &mut Desk, call: Command<'a>) -> anyhow::Result<Item<'a>> {

@@ -15,7 +15,7 @@ pub enum Item<'a> {
     // A file that cannot be read, and why.
     Unread(&'a str, io::Error),
     // A line that is no call, with its number.
-    Unclear(u64, &'a [u8]),
+    Unclear(u64, Shown<'a>),
 }
 
 impl fmt::Display for Item<'_> {
@@ -32,7 +32,7 @@ impl fmt::Display for Item<'_> {
                     _ => writeln!(f, "  the file {} cannot be read: {error}", Shown(file)),
                 }
             }
-            Item::Unclear(at, line) => writeln!(f, "line {at} is no call: {}", Shown::line(line)),
+            Item::Unclear(at, line) => writeln!(f, "line {at} is no call: {line}"),
         }
     }
 }
