@@ -9,7 +9,8 @@ pub fn call_of(alloc: Global, piece: &str) -> Result<Option<Request<Vec<u8>>>, A
     if let Some(text) = piece.strip_prefix("enter ") {
         return Ok(Some(Request::Enter(decode(alloc, text.as_bytes())?)));
     }
-    let words: Vec<&str> = piece.split(' ').collect(alloc)?;
+    // No call has more than six words.
+    let words: Vec<&str> = piece.split(' ').take(7).collect(alloc)?;
     Ok(short_call(words.as_slice()))
 }
 

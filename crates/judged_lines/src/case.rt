@@ -49,7 +49,8 @@ pub struct Case<'a> {
 impl<'a> Case<'a> {
     // Not `TryFrom`: the fields are kept in a `Vec`, and `try_from` is given no allocator.
     pub fn read(alloc: Global, line: &'a [u8]) -> Result<Case<'a>, Unanswered> {
-        let fields: Vec<&'a str> = ascii(line)?.split(';').collect(alloc)?;
+        // One more than a case has shows that there are too many.
+        let fields: Vec<&'a str> = ascii(line)?.split(';').take(7).collect(alloc)?;
         let [shape, hidden, room, first, second, contract] = fields.as_slice() else {
             return Err(Unanswered::Unclear);
         };

@@ -1,9 +1,9 @@
 //! Judges what a line names, and shows the verdict and the workspace that it leaves as one line.
 #![tactic(auto)]
 
-mod case;
-mod judged;
-mod piles;
+pub mod case;
+pub mod judged;
+pub mod piles;
 
 use crate::piles::answer_to;
 use listed::lines::answer_lines;

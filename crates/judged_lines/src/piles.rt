@@ -27,8 +27,6 @@ impl Contract<'_> {
 pub fn answer_to(alloc: Global, line: &[u8]) -> Result<Judged, Unanswered> {
     let case = Case::read(alloc, line)?;
     let first = table_of(alloc, case.first)?;
-    // Only a pair has a second table.
-    let second = table_of(alloc, case.second);
     let other = table_of(alloc, case.contract)?;
     let contract = Contract {
         alloc,
@@ -41,10 +39,17 @@ pub fn answer_to(alloc: Global, line: &[u8]) -> Result<Judged, Unanswered> {
     match case.shape {
         Shape::Plain => contract.judge(&left),
         Shape::Hidden => contract.judge(&hidden(names, left)),
-        Shape::Pair => contract.judge(&beside(left, second?.table())),
-        Shape::HiddenPair => contract.judge(&hidden(names, beside(left, second?.table()))),
+        Shape::Pair => {
+            let second = table_of(alloc, case.second)?;
+            contract.judge(&beside(left, second.table()))
+        }
+        Shape::HiddenPair => {
+            let second = table_of(alloc, case.second)?;
+            contract.judge(&hidden(names, beside(left, second.table())))
+        }
         Shape::RenamedPair => {
-            contract.judge(&backwards(hidden(names, beside(left, second?.table())))?)
+            let second = table_of(alloc, case.second)?;
+            contract.judge(&backwards(hidden(names, beside(left, second.table())))?)
         }
     }
 }

@@ -30,8 +30,9 @@ impl Answer {
 
 fn make(call: &Call, workspace: &mut [u8], line: &mut [u8]) -> usize {
     match call {
-        Call::Texts(module, contract) => {
-            verdict_line(module.as_slice(), contract.as_slice(), workspace, line)
+        Call::Texts(bytes, first) => {
+            let (module, contract) = bytes.as_slice().split_at((*first).min(bytes.len()));
+            verdict_line(module, contract, workspace, line)
         }
         Call::Input(bytes) => verdict_line_of_input(bytes.as_slice(), workspace, line),
     }

@@ -6,8 +6,8 @@ use std::alloc::Global;
 
 #[derive(Drop)]
 pub enum Call {
-    // Two texts, the module's first.
-    Texts(Vec<u8>, Vec<u8>),
+    // Two texts in one, of which the first, the module's, has so many bytes.
+    Texts(Vec<u8>, usize),
     // One input that holds both.
     Input(Vec<u8>),
 }
@@ -25,25 +25,24 @@ impl Case {
         let [call, room, buffer, first, text] = fields.as_slice() else {
             return Err(Unanswered::Unclear);
         };
+        let (call, first) = (number(call)?, number(first)?);
+        let (room, buffer) = (number(room)?, number(buffer)?);
         Ok(Case {
-            call: call_of(number(call)?, number(first)?, decode(alloc, text)?)?,
-            room: number(room)?,
-            buffer: number(buffer)?,
+            call: call_of(call, first, decode(alloc, text)?)?,
+            room,
+            buffer,
         })
     }
 }
 
 // The call of this number, on bytes of which so many are the first text.
-fn call_of(call: u32, first: u32, mut bytes: Vec<u8>) -> Result<Call, Unanswered> {
+fn call_of(call: u32, first: u32, bytes: Vec<u8>) -> Result<Call, Unanswered> {
     let first = first as usize;
     if first > bytes.len() {
         return Err(Unanswered::Unclear);
     }
     match call {
-        1 => {
-            let second = bytes.split_off(first)?;
-            Ok(Call::Texts(bytes, second))
-        }
+        1 => Ok(Call::Texts(bytes, first)),
         2 => Ok(Call::Input(bytes)),
         _ => Err(Unanswered::Unclear),
     }

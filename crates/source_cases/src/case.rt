@@ -66,7 +66,8 @@ pub struct Case<'a> {
 impl<'a> Case<'a> {
     // Not `TryFrom`: the fields are kept in a `Vec`, and `try_from` is given no allocator.
     pub fn read(alloc: Global, line: &'a [u8]) -> Result<Case<'a>, Unanswered> {
-        let fields: Vec<&'a str> = ascii(line)?.split(';').collect(alloc)?;
+        // One more than a case has shows that there are too many.
+        let fields: Vec<&'a str> = ascii(line)?.split(';').take(9).collect(alloc)?;
         let [shape, hidden, map, names, sheet, first, second, third] = fields.as_slice() else {
             return Err(Unanswered::Unclear);
         };
@@ -85,6 +86,7 @@ impl<'a> Case<'a> {
 fn map_of(alloc: Global, field: &str) -> Result<[u8; 32], Unanswered> {
     let numbers: Vec<u8> = field
         .split(',')
+        .take(33)
         .map(|number| read::<u8>(number))
         .try_collect(alloc)?;
     <[u8; 32]>::try_from(numbers).map_err(|_| Unanswered::Unclear)

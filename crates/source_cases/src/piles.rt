@@ -11,31 +11,42 @@ use std::alloc::Global;
 
 pub fn answer_to(alloc: Global, line: &[u8]) -> Result<Told, Unanswered> {
     let case = Case::read(alloc, line)?;
-    // A shape has one table, two or three, and only those need to read.
-    let first = table_of(alloc, case.texts[0])?;
-    let second = table_of(alloc, case.texts[1]);
-    let third = table_of(alloc, case.texts[2]);
+    let [first, second, third] = case.texts;
+    let first = table_of(alloc, first)?;
     let a = first.table();
-    // Each shape is a source of another type, so no closure stands for all.
+    // Each shape is a source of another type, so no closure stands for all. It has one table, two or three, and only those
+    // are read.
     match case.shape {
         Shape::Plain => case.ask(alloc, &a),
         Shape::Hidden => case.ask(alloc, &case.hide(a)),
         Shape::Renamed => case.ask(alloc, &case.rename(a)?),
         Shape::Twice => case.ask(alloc, &beside(&a, &a)),
-        Shape::Pair => case.ask(alloc, &beside(a, second?.table())),
-        Shape::HiddenPair => case.ask(alloc, &case.hide(beside(a, second?.table()))),
+        Shape::Pair => {
+            let second = table_of(alloc, second)?;
+            case.ask(alloc, &beside(a, second.table()))
+        }
+        Shape::HiddenPair => {
+            let second = table_of(alloc, second)?;
+            case.ask(alloc, &case.hide(beside(a, second.table())))
+        }
         Shape::RenamedHiddenPair => {
-            case.ask(alloc, &case.rename(case.hide(beside(a, second?.table())))?)
+            let second = table_of(alloc, second)?;
+            case.ask(alloc, &case.rename(case.hide(beside(a, second.table())))?)
         }
         Shape::HiddenByRenamed => {
-            case.ask(alloc, &beside(case.hide(a), case.rename(second?.table())?))
+            let second = table_of(alloc, second)?;
+            case.ask(alloc, &beside(case.hide(a), case.rename(second.table())?))
         }
-        Shape::PairFirst => { case.ask(alloc, &beside(beside(a, second?.table()), third?.table())) }
+        Shape::PairFirst => {
+            let second = table_of(alloc, second)?;
+            let third = table_of(alloc, third)?;
+            case.ask(alloc, &beside(beside(a, second.table()), third.table()))
+        }
         Shape::HiddenPairLast => {
-            case.ask(
-                alloc,
-                &case.hide(beside(a, case.hide(beside(second?.table(), third?.table())))),
-            )
+            let second = table_of(alloc, second)?;
+            let third = table_of(alloc, third)?;
+            let last = case.hide(beside(second.table(), third.table()));
+            case.ask(alloc, &case.hide(beside(a, last)))
         }
     }
 }
