@@ -21,6 +21,11 @@ passed f x (t ∷ ts) e =
     first true e = absurd (true≢false e)
     first false e = (refl, e)
 
+-- where no test fails, what is left is answered; and where one fails first, its refusal
+pub skipped : {A : Type 0} (ts : List Test) → AllByRecursion (λ t. t.fails ≡ false) ts → (f : Refusal → A) (x : A) → unless_failed ts f x ≡ x
+skipped [] p f x = refl
+skipped (t ∷ ts) p f x = cond-false t.fails (f t.with_this) (unless_failed ts f x) p.0 ∙ skipped ts p.1 f x
+
 -- where a value is answered, no test fails, and it is what was left
 pub all_pass : {A : Type 0} (ts : List Test) (x a : A) → Ok a ≡ unless_failed ts Err (Ok x) → AllByRecursion (λ t. t.fails ≡ false) ts × (a ≡ x)
 all_pass [] x a e = (tt, cc)
@@ -33,6 +38,16 @@ all_pass {A} (t ∷ ts) x a e =
         (b ≡ false) × (◌≡◌ {A = Result A Refusal} (Ok a) (unless_failed ts Err (Ok x)))
     first true e = absurd (let z : ◌≡◌ {A = ℕ} 0 1 = cc in omega arith)
     first false e = (refl, e)
+
+pub stopped : {A B : Type 0} (ts : List Test) (x : A) (e : Refusal) → Err e ≡ unless_failed ts Err (Ok x) → (f : Refusal → B) (y : B) → unless_failed ts f y ≡ f e
+stopped [] x e i f y = absurd (let z : ◌≡◌ {A = ℕ} 0 1 = cc in omega arith)
+stopped {A} {B} (t ∷ ts) x e i f y = go t.fails i (λ k. stopped ts x e k f y)
+  where
+    go : (b : Bool) → ◌≡◌ {A = Result A Refusal} (Err e) (cond b (Err t.with_this) (unless_failed ts Err (Ok x))) →
+        (◌≡◌ {A = Result A Refusal} (Err e) (unless_failed ts Err (Ok x)) → unless_failed ts f y ≡ f e) →
+        cond b (f t.with_this) (unless_failed ts f y) ≡ f e
+    go true i later = let k : t.with_this ≡ e = cc in ap f k
+    go false i later = later i
 
 pub goes_on : (H : Contents) (c : Call) (K : Contents) → K ≡ after H c → GoesOn H c K
 goes_on H c K k past l = ⊎_elim

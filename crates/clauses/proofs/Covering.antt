@@ -45,7 +45,12 @@ pub bare_covered : (M N : Machine) (U : ℕ → ℕ → Bool) (q p' : ℕ) → r
 unfolding first_rest_at
 bare_covered M N U q p' e = ap (λ (b : Bool). or_else (when {A = Option ℕ × ℕ} b (None, p')) (first_some (rest_on M N U q p') 64 0)) e
 
--- a label with which it is covered
+-- a label with which it is not covered
+pub on_fails : (M N : Machine) (U : ℕ → ℕ → Bool) (q p' l : ℕ) → rest_fails M N U q p' l ≡ true → rest_on M N U q p' l ≡ Some (Some l, p')
+unfolding rest_on
+on_fails M N U q p' l e = ap (λ (b : Bool). when {A = Option ℕ × ℕ} b (Some l, p')) e
+
+-- and one with which it is
 pub on_covered : (M N : Machine) (U : ℕ → ℕ → Bool) (q p' l : ℕ) → rest_fails M N U q p' l ≡ false → rest_on M N U q p' l ≡ None
 unfolding rest_on
 on_covered M N U q p' l e = ap (λ (b : Bool). when {A = Option ℕ × ℕ} b (Some l, p')) e

@@ -35,6 +35,10 @@ ok_listing : (r : Result Listing Fault) → is_ok r ≡ true → (t : Listing) �
 ok_listing (Ok t) e = (t, refl)
 ok_listing (Err f) e = absurd (true≢false (sym e))
 
+pub found_err : (r : Result Listing Fault) (f : Fault) → Err f ≡ summary_of r → r ≡ Err f
+found_err (Ok t) f e = absurd (let z : ◌≡◌ {A = ℕ} 0 1 = cc in omega arith)
+found_err (Err g) f e = cc
+
 pub room_ok : (room : ℕ) (r : Result Listing Fault) (s : Summary) → Ok s ≡ in_room room (summary_of r) →
     (r ≡ Ok (listed s (moves_of r))) × (length (moves_of r) ≡ s.moves) × (s.moves ≤ room)
 room_ok room (Err f) s e = absurd (let z : ◌≡◌ {A = ℕ} 0 1 = cc in omega arith)

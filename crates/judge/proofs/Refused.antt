@@ -1,5 +1,5 @@
 -- What is known once nothing is refused.
-use Rattle.std.proofs.Common.{◌≡◌, ℕ, ◌≤◌, true, false, cond, ◌||◌, eqb, ltb, List, length, Ok, Err, Result, ◌∙◌, ⊎_elim, arith}
+use Rattle.std.proofs.Common.{◌≡◌, ℕ, ◌≤◌, Bool, true, false, cond, ◌||◌, eqb, ltb, List, length, Ok, Err, Result, sym, ap, ◌∙◌, ⊎_elim, arith}
 use Rattle.std.proofs.lemmas.Bool.{cases_Bool, cond-true, cond-false, or_from, or_parts, eqb-false, ne_eqb, ltb-false, le-ltb}
 use Rattle.lts.specs.Machines.{Machine, Fits}
 use Rattle.source.specs.declared.refusal.Refusal.{Refusal}
@@ -55,3 +55,16 @@ module _ (M N : Machine) (f : Fits M) (g : Fits N) where
   after_whole was h =
       cond-false (eqb M.size 0 || eqb N.size 0) was (cond (ltb (length was) (total M N)) was (whole M N was)) large_false
       ∙ cond-false (ltb (length was) (total M N)) was (whole M N was) (le-ltb (length was) (total M N) h)
+
+-- one refusal
+err_same : {A B E : Type 0} (x y : E) → ◌≡◌ {A = Result A E} (Err x) (Err y) → ◌≡◌ {A = Result B E} (Err x) (Err y)
+err_same x y z = let e : x ≡ y = cc in ap Err e
+
+-- what is refused does not depend on what would be answered
+pub refused_same : (M N : Machine) (room : ℕ) {A B : Type 0} (x : A) (y : B) (r : Refusal) → Err r ≡ unless_refused M N room x → Err r ≡ unless_refused M N room y
+refused_same M N room x y r e = go (eqb M.size 0 || eqb N.size 0) (ltb room (total M N)) e
+  where
+    go : (a b : Bool) → Err r ≡ cond a (Err TooLarge) (cond b (Err TooShort) (Ok x)) → Err r ≡ cond a (Err TooLarge) (cond b (Err TooShort) (Ok y))
+    go true b e = err_same r TooLarge e
+    go false true e = err_same r TooShort e
+    go false false e = absurd (ok_err x r (sym e))

@@ -1,6 +1,23 @@
-use Rattle.std.proofs.Common.{◌≡◌, ℕ, ◌<◌, List, [], ◌∷◌, map, Bor, length, get_or, take, drop, sym, refl, ap, ◌∙◌, arith}
+use Rattle.std.proofs.Common.{◌≡◌, ℕ, ◌<◌, List, [], ◌∷◌, map, Bor, length, get_or, take, drop, Err, sym, refl, ap, ◌∙◌, arith}
+use Rattle.table.specs.declared.fault.Fault.{Fault}
 use Rattle.table.specs.declared.line.Kind.{Kind}
 use Rattle.table.specs.Table.{move_of, head_of, kind_of, move_line}
+
+-- other than four fields are no move
+pub move_shape : {X : Type 0} (n k : ℕ) (f : X → List ℕ) (xs : List X) → (length xs ≡ 4 → ⊥) → move_of n k (map f xs) ≡ Err (Fault.Misshapen k)
+move_shape n k f [] h = refl
+move_shape n k f (a ∷ []) h = refl
+move_shape n k f (a ∷ b ∷ []) h = refl
+move_shape n k f (a ∷ b ∷ c ∷ []) h = refl
+move_shape n k f (a ∷ b ∷ c ∷ d ∷ []) h = absurd (h refl)
+move_shape n k f (a ∷ b ∷ c ∷ d ∷ e ∷ es) h = refl
+
+-- other than two fields are no first line
+pub head_shape : {X : Type 0} (k : ℕ) (f : X → List ℕ) (xs : List X) → (length xs ≡ 2 → ⊥) → head_of k (map f xs) ≡ Err (Fault.Misshapen k)
+head_shape k f [] h = refl
+head_shape k f (a ∷ []) h = refl
+head_shape k f (a ∷ b ∷ []) h = absurd (h refl)
+head_shape k f (a ∷ b ∷ c ∷ cs) h = refl
 
 -- a list of so many elements is its elements
 pub four_of : {X : Type 0} (xs : List X) (d : X) → length xs ≡ 4 → xs ≡ get_or xs 0 d ∷ get_or xs 1 d ∷ get_or xs 2 d ∷ get_or xs 3 d ∷ []
@@ -48,6 +65,13 @@ move_six n k (a ∷ b ∷ []) = refl
 move_six n k (a ∷ b ∷ c ∷ []) = refl
 move_six n k (a ∷ b ∷ c ∷ d ∷ []) = refl
 move_six n k (a ∷ b ∷ c ∷ d ∷ e ∷ es) = refl
+
+-- the same for a first line
+pub head_six : (k : ℕ) (fs : List (List ℕ)) → head_of k (take 5 fs) ≡ head_of k fs
+head_six k [] = refl
+head_six k (a ∷ []) = refl
+head_six k (a ∷ b ∷ []) = refl
+head_six k (a ∷ b ∷ c ∷ cs) = refl
 
 -- a line of the move kind is read by the fields after its first
 pub move_line_by : (n k : ℕ) (fs : List (Bor (List ℕ))) (ps : List (List ℕ)) → map (λ f. f.now) fs ≡ take 6 ps → 0 < length fs → kind_of (field fs 0) ≡ Kind.Move → move_of n k (map (λ f. f.now) (drop 1 fs)) ≡ move_line n k ps

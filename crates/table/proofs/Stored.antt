@@ -25,6 +25,14 @@ onto_moves : (x : Move) (r : Result Listing Fault) → is_ok (onto x r) ≡ true
 onto_moves x (Ok t) h = (refl, refl)
 onto_moves x (Err f) h = absurd (cc)
 
+-- all the moves have places, so the move has its place
+pub store_room : (all was ms : List Move) (many : ℕ) (x : Move) (r : Result Listing Fault) → Storing all was ms many (onto x r) → length all ≤ length ms → many < length ms
+store_room all was ms many x r had fits =
+    let whole : take many ms ++ x ∷ moves_of r ≡ all = ap (λ (ys : List Move). take many ms ++ ys) (sym (onto_moves x r had.0).1) ∙ had.3 in
+    let n = sym (length-append (take many ms) (x ∷ moves_of r)) ∙ ap length whole in
+    let t = length-take-le many ms had.1 in
+    omega arith
+
 -- a move to come has its place, and storing it there goes on
 module _ (all was ms : List Move) (many : ℕ) (x : Move) (r : Result Listing Fault) (had : Storing all was ms many (onto x r)) (room : many < length ms) where
   -- what is stored, the move and what comes after it are all
