@@ -9,25 +9,30 @@ pub fn call_of(alloc: Global, piece: &str) -> Result<Option<Request<Vec<u8>>>, A
     if let Some(text) = piece.strip_prefix("enter ") {
         return Ok(Some(Request::Enter(decode(alloc, text.as_bytes())?)));
     }
-    // No call has more than six words.
-    let words: Vec<&str> = piece.split(' ').take(7).collect(alloc)?;
-    Ok(short_call(words.as_slice()))
+    Ok(short_call(piece))
 }
 
-fn short_call(words: &[&str]) -> Option<Request<Vec<u8>>> {
-    match words {
-        ["seat", seat, contract] => Some(Request::Seat(number(seat)?, number(contract)?)),
-        ["fit", seat, table, helper, hidden, room] => {
+// The words are taken one after another: a vector of them would be made for each call.
+fn short_call(piece: &str) -> Option<Request<Vec<u8>>> {
+    let mut words = piece.split(' ');
+    let call = match words.next()? {
+        "seat" => Request::Seat(number(words.next()?)?, number(words.next()?)?),
+        "fit" => {
+            let seat = number(words.next()?)?;
             let pile = Pile {
-                table: number(table)?,
-                helper: helper_of(helper)?,
-                hidden: NameSet(hidden.parse::<u32>().ok()?),
+                table: number(words.next()?)?,
+                helper: helper_of(words.next()?)?,
+                hidden: NameSet(words.next()?.parse::<u32>().ok()?),
             };
-            Some(Request::Fit(number(seat)?, pile, room.parse::<u32>().ok()? as usize))
+            Request::Fit(seat, pile, words.next()?.parse::<u32>().ok()? as usize)
         }
-        ["unfit", seat] => Some(Request::Unfit(number(seat)?)),
-        ["clear", seat] => Some(Request::Clear(number(seat)?)),
-        _ => None,
+        "unfit" => Request::Unfit(number(words.next()?)?),
+        "clear" => Request::Clear(number(words.next()?)?),
+        _ => return None,
+    };
+    match words.next() {
+        None => Some(call),
+        Some(_) => None,
     }
 }
 

@@ -1,17 +1,16 @@
-// What comes of a call, and what is on the seats after it.
+// What comes of a call, and what is on the seats.
 use calls::{Pile, Refusal, Reply, Request, Seat};
 use house::{House, SEATS};
 use listed::shown::{Failing, Yes, hash};
 use listed::untouched;
 use std::alloc::{AllocError, Global};
-use std::{array, fmt};
+use std::fmt;
 
 #[derive(Clone, Copy)]
 pub struct Turn {
     reply: Result<Reply, Refusal>,
     // A hash of the workspace that a fit was lent.
     workspace: Option<u64>,
-    seats: [Seat; SEATS],
 }
 
 impl Turn {
@@ -34,16 +33,8 @@ impl Turn {
             Request::Unfit(seat) => house.unfit(*seat).map(|()| Reply::Done),
             Request::Clear(seat) => house.clear(*seat).map(|()| Reply::Done),
         };
-        Ok(Turn {
-            reply,
-            workspace,
-            seats: seats_of(house),
-        })
+        Ok(Turn { reply, workspace })
     }
-}
-
-fn seats_of(house: &House) -> [Seat; SEATS] {
-    array::from_fn(|seat| house.at(seat as u8).unwrap_or(Seat::Empty))
 }
 
 impl fmt::Display for Turn {
@@ -55,9 +46,18 @@ impl fmt::Display for Turn {
         if let Some(hash) = self.workspace {
             write!(f, " #{hash:016x}")?;
         }
-        f.write_str(" |")?;
-        for seat in self.seats {
-            show_seat(seat, f)?;
+        Ok(())
+    }
+}
+
+// The seats of a house, in order.
+#[derive(Clone, Copy)]
+pub struct Seats<'a>(pub &'a House);
+
+impl fmt::Display for Seats<'_> {
+    fn fmt<W: fmt::Write>(&self, f: &mut fmt::Formatter<W>) -> fmt::Result {
+        for seat in 0..SEATS as u8 {
+            show_seat(self.0.at(seat).unwrap_or(Seat::Empty), f)?;
         }
         Ok(())
     }
